@@ -1,6 +1,6 @@
 ghost use Rattle.std.specs.Prelude.{◌≡◌, IfOk};
 
-use crate::OutOfMemory;
+use crate::{OutOfMemory, Plain};
 use std::alloc::Global;
 use std::marker::Model;
 
@@ -39,10 +39,10 @@ impl Blob {
     {
         &self.held
     }
+}
 
-    pub fn copy(&self, alloc: Global) -> Result<Blob, OutOfMemory>
-        ensures { IfOk result (λ blob. blob ≡ self.now) }
-    {
+impl Plain for Blob {
+    fn copy(&self, alloc: Global) -> Result<Blob, OutOfMemory> {
         Blob::new(alloc, &self.held)
     }
 }

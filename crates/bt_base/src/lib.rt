@@ -4,10 +4,12 @@
 mod blob;
 mod list_of;
 mod out_of_memory;
+mod plain;
 
 pub use blob::Blob;
 pub use list_of::ListOf;
 pub use out_of_memory::OutOfMemory;
+pub use plain::Plain;
 
 /// A list of byte strings.
 pub type BlobList = ListOf<Blob>;

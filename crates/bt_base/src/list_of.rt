@@ -1,6 +1,6 @@
 ghost use Rattle.std.specs.Prelude.{◌≡◌, ◌↔◌, ◌≤◌, ◌<◌, [], ◌∷◌, ◌++◌, length, insert, slice_set, IsTrue, OnOk, OnErr};
 
-use crate::OutOfMemory;
+use crate::{OutOfMemory, Plain};
 use std::alloc::Global;
 use std::marker::Model;
 
@@ -77,5 +77,15 @@ impl<T: Drop> ListOf<T> {
         ensures { self.new ≡ slice_set self.old place item }
     {
         self.held[place] = item;
+    }
+}
+
+impl<T: Plain> Plain for ListOf<T> {
+    fn copy(&self, alloc: Global) -> Result<ListOf<T>, OutOfMemory> {
+        let mut held = Vec::with_capacity(alloc, self.held.len())?;
+        for item in &self.held {
+            held.push(item.copy(alloc)?)?;
+        }
+        Ok(ListOf { held })
     }
 }

@@ -1,0 +1,58 @@
+//! The name of a column family.
+ghost use Rattle.std.specs.Prelude.{◌≡◌, IfOk};
+ghost use Rattle.bt_types.specs.Grammar.{lawful, is_family_name};
+
+use crate::bytes_of_names::is_family;
+use bt_base::{OutOfMemory, Plain};
+use std::alloc::Global;
+use std::marker::Model;
+
+/// The name of a column family: 1 to 64 characters of `[-_.a-zA-Z0-9]`
+/// (`google.bigtable.admin.v2`, `ModifyColumnFamiliesRequest`). A contract sees its bytes.
+#[derive(Debug, Drop)]
+pub struct FamilyName {
+    held: String,
+}
+
+impl Model for FamilyName {
+    ghost use Rattle.std.specs.Prelude.{List, ℕ, IsTrue, string_bytes};
+    ghost use Rattle.bt_types.specs.Grammar.{is_family_name};
+
+    ghost Value = { List ℕ };
+
+    ghost view = { λ n. string_bytes n.held };
+
+    ghost invariant = { λ n. IsTrue (is_family_name (string_bytes n.held)) };
+}
+
+impl FamilyName {
+    /// The name that the text is, or `None` where it is none.
+    pub fn new(alloc: Global, text: &str) -> Result<Option<FamilyName>, OutOfMemory>
+        ensures { IfOk result (λ name. name ≡ lawful is_family_name text.now) }
+    {
+        if !is_family(text.as_bytes()) {
+            return Ok(None);
+        }
+        let held = String::from_str(alloc, text)?;
+        Ok(Some(FamilyName { held }))
+    }
+
+    pub fn bytes(&self) -> &[u8]
+        ensures { result.now ≡ self.now }
+    {
+        self.held.as_bytes()
+    }
+
+    pub fn text(&self) -> &str
+        ensures { result.now ≡ self.now }
+    {
+        self.held.as_str()
+    }
+}
+
+impl Plain for FamilyName {
+    fn copy(&self, alloc: Global) -> Result<FamilyName, OutOfMemory> {
+        let held = String::from_str(alloc, self.held.as_str())?;
+        Ok(FamilyName { held })
+    }
+}

@@ -1,0 +1,36 @@
+use crate::{Cell, FamilyName, Label, Micros, Qualifier, RowKey, TableName, cell_order};
+use bt_base::{Blob, Plain};
+use std::alloc::Global;
+use std::cmp::Ordering;
+use std::test::Fail;
+
+fn cell(alloc: Global, family: &str, qualifier: &[u8], at: i64) -> Result<Cell, Fail> {
+    Ok(Cell::plain(
+        FamilyName::new(alloc, family)?.ok_or("family")?,
+        Qualifier::new(alloc, qualifier)?.ok_or("qualifier")?,
+        Micros::new(at).ok_or("timestamp")?,
+        Blob::new(alloc, b"v")?,
+    ))
+}
+
+#[test]
+fn names_are_made(rt: HostRuntime) -> Result<(), Fail> {
+    let alloc = rt.alloc();
+    let name = TableName::in_instance(alloc, "projects/p/instances/i", "t")?.ok_or("table")?;
+    assert_eq!(rt; name.text(), "projects/p/instances/i/tables/t");
+    assert!(rt; TableName::in_instance(alloc, "projects", "instances/i/tables/t")?.is_none());
+    assert!(rt; RowKey::new(alloc, b"r")?.is_some());
+    assert!(rt; Label::new(alloc, "foo-1")?.is_some());
+    assert!(rt; Label::new(alloc, "Foo")?.is_none());
+    Ok(())
+}
+
+#[test]
+fn newer_cells_come_first(rt: HostRuntime) -> Result<(), Fail> {
+    let alloc = rt.alloc();
+    let old = cell(alloc, "f", b"q", 1000)?;
+    let new = cell(alloc, "f", b"q", 2000)?;
+    assert!(rt; matches!(cell_order(&new, &old), Ordering::Less));
+    assert!(rt; matches!(cell_order(&old, &old.copy(alloc)?), Ordering::Equal));
+    Ok(())
+}
