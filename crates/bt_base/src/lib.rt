@@ -13,3 +13,6 @@ pub use plain::Plain;
 
 /// A list of byte strings.
 pub type BlobList = ListOf<Blob>;
+
+#[cfg(test)]
+mod tests;
