@@ -1,0 +1,10 @@
+pub mod Clock
+pub mod Disk
+pub mod DiskImage
+pub mod DiskSteps
+pub mod FileStates
+pub mod History
+pub mod Links
+pub mod MemoryDisk
+pub mod Model
+pub mod Print
