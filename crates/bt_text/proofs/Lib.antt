@@ -1,0 +1,4 @@
+pub mod Digits
+pub mod PrintedBytes
+pub mod PrintedNumbers
+pub mod StandardForms

@@ -1,0 +1,3 @@
+pub mod Int64
+pub mod Bytes
+pub mod Refusal
