@@ -1,0 +1,4 @@
+pub mod Contents
+pub mod State
+pub mod Incarnations
+pub mod Places

@@ -1,0 +1,9 @@
+-- Where a cell stands, or would stand, among the cells of a row.
+use Rattle.std.specs.Prelude.{◌≡◌, ◌<◌, ◌≤◌, ℕ, List, length, insert, slice_set, Result, Ok, Err}
+use Rattle.bt_types.specs.declared.cell.Cell.{Cell}
+use Rattle.bt_types.specs.Mutations.{set_cell}
+
+-- a cell is put in place of the one there, or before it
+abbrev pub IsPlace : Cell → List Cell → Result ℕ ℕ → Type 0
+IsPlace c ds (Ok i) = (i < length ds) × (set_cell c ds ≡ slice_set ds i c)
+IsPlace c ds (Err i) = (i ≤ length ds) × (set_cell c ds ≡ insert ds i c)
