@@ -1,0 +1,6 @@
+pub mod Looks
+pub mod Families
+pub mod NoFloats
+pub mod ChunkTexts
+pub mod LineTexts
+pub mod PlainRequests

@@ -1,0 +1,5 @@
+pub mod Json
+pub mod Requests
+pub mod Lines
+pub mod Refusals
+pub mod Chunks

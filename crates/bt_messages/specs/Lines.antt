@@ -1,0 +1,48 @@
+-- Lines of replies: a JSON object without spaces, and a line feed.
+use Rattle.std.specs.Prelude.{ℕ, List, [], ◌∷◌, ◌++◌, codes}
+use Rattle.serde_json.specs.Data.{Data, number, unsigned, string, object, Members, no_members, member, put}
+use Rattle.serde_json.specs.Written.{compact_text}
+
+-- a value as a line
+unfoldable pub line_of : Data → List ℕ
+line_of d = compact_text d ++ 10 ∷ []
+
+-- an object of one member
+abbrev pub object_with : List ℕ → Data → Data
+object_with k d = object (member k d no_members)
+
+-- a line that carries a response
+abbrev pub response_data : Data → Data
+response_data d = object_with (codes "response") d
+
+-- the last line of a request that was refused
+abbrev pub status_data : ℕ → List ℕ → Data
+status_data code text = object_with (codes "status") (object (put (codes "code") (number (unsigned code)) (put (codes "message") (string text) no_members)))
+
+-- the last line of a request that was served
+abbrev pub ok_data : Data
+ok_data = object_with (codes "status") (object no_members)
+
+-- the last line of a request that was served, as bytes
+abbrev pub ok_line : List ℕ
+ok_line = line_of ok_data
+
+-- the members, with an empty object at each name
+abbrev pub families_onto : Members → List (List ℕ) → Members
+families_onto ms [] = ms
+families_onto ms (f ∷ fs) = families_onto (put f (object no_members) ms) fs
+
+-- the families of a table, each without a collection rule
+abbrev pub families_data : List (List ℕ) → Data
+families_data families = object (families_onto no_members families)
+
+-- what a table is shown as (google.bigtable.admin.v2.Table)
+abbrev pub table_data : List ℕ → List (List ℕ) → Data
+table_data name families =
+    object (put (codes "columnFamilies") (families_data families)
+    (put (codes "granularity") (string (codes "MILLIS"))
+    (put (codes "name") (string name) no_members)))
+
+-- the line that shows a table
+abbrev pub table_response : List ℕ → List (List ℕ) → List ℕ
+table_response name families = line_of (response_data (table_data name families))
