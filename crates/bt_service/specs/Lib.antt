@@ -1,0 +1,4 @@
+pub mod Replies
+pub mod Turns
+pub mod Answers
+pub mod Steps
