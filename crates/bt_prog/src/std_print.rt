@@ -1,0 +1,36 @@
+//! Standard output as a screen.
+ghost use Rattle.std.specs.Prelude.{[]};
+
+use bt_outside::{Print, PrintFailed};
+use std::io;
+
+/// Prints to standard output. It counts its failures, and tells no text.
+#[derive(Drop)]
+pub struct StdPrint<'r, R: io::Print> {
+    rt: &'r R,
+    faults: u64,
+}
+
+impl<'r, R: io::Print> StdPrint<'r, R> {
+    pub fn new(rt: &'r R) -> StdPrint<'r, R> {
+        StdPrint { rt, faults: 0 }
+    }
+}
+
+impl<R: io::Print> Print for StdPrint<'_, R> {
+    ghost tells = { λ _. ⊥ };
+
+    ghost printed = { λ _. [] };
+
+    ghost faults = { λ p. p.faults };
+
+    fn print(&mut self, text: &[u8]) -> Result<(), PrintFailed> {
+        match self.rt.write_all(text) {
+            Ok(()) => Ok(()),
+            Err(_) => {
+                self.faults = self.faults.saturating_add(1);
+                Err(PrintFailed)
+            }
+        }
+    }
+}
