@@ -33,55 +33,6 @@ fn serve(
     Ok(count)
 }
 
-// Reads a further part of the connection that comes next.
-fn second_part(links: &mut MemoryLinks, into: &mut [u8; 4]) -> Result<usize, LinkFailed> {
-    if !Links::<MemoryDisk>::next(links)? {
-        return Ok(0);
-    }
-    let _ = Links::<MemoryDisk>::read(links, into)?;
-    Links::<MemoryDisk>::read(links, into)
-}
-
-#[test]
-fn links_serve_one_connection_after_another(rt: HostRuntime) -> Result<(), Fail> {
-    let disk = MemoryDisk::new(rt.alloc());
-    let mut links = two_connections(rt.alloc())?;
-    let mut into = [0; 4];
-    assert_eq!(rt; serve(&mut links, &disk, &mut into, "first")?, 2);
-    assert_eq!(rt; &into, b"ab\0\0");
-    assert_eq!(rt; serve(&mut links, &disk, &mut into, "second")?, 3);
-    assert_eq!(rt; &into, b"xyz\0");
-    assert_eq!(rt; serve(&mut links, &disk, &mut into, "third")?, 0);
-    assert_eq!(rt; links.written(0), "first".as_bytes());
-    assert_eq!(rt; links.written(1), "second".as_bytes());
-    assert_eq!(rt; links.written(2), "".as_bytes());
-    Ok(())
-}
-
-#[test]
-fn links_go_on_within_a_connection(rt: HostRuntime) -> Result<(), Fail> {
-    let mut links = two_connections(rt.alloc())?;
-    let mut into = [0; 4];
-    assert_eq!(rt; second_part(&mut links, &mut into)?, 1);
-    assert_eq!(rt; &into, b"cb\0\0");
-    Links::<MemoryDisk>::close(&mut links);
-    assert_eq!(rt; second_part(&mut links, &mut into)?, 0);
-    Ok(())
-}
-
-#[test]
-fn links_fail_at_their_calls(rt: HostRuntime) -> Result<(), Fail> {
-    let disk = MemoryDisk::new(rt.alloc());
-    let mut links = two_connections(rt.alloc())?;
-    let mut into = [0; 4];
-    links.fail_calls(&[3, 5])?;
-    assert!(rt; serve(&mut links, &disk, &mut into, "lost").is_err());
-    assert!(rt; serve(&mut links, &disk, &mut into, "unread").is_err());
-    assert_eq!(rt; links.written(0), "".as_bytes());
-    assert!(rt; links.failed(0) && links.failed(1) && !links.failed(2));
-    Ok(())
-}
-
 #[test]
 fn clock_repeats_its_last_reading(rt: HostRuntime) -> Result<(), Fail> {
     let mut readings = Readings::new(rt.alloc());
@@ -108,12 +59,8 @@ fn put(disk: &mut MemoryDisk, file: u64, at: u64, text: &str) -> Result<(), Disk
     Ok(())
 }
 
-fn first_four(disk: &mut MemoryDisk, file: u64) -> Result<[u8; 4], DiskFailed> {
-    let mut into = [0; 4];
-    if 4 <= disk.length(file)? {
-        disk.read(file, 0, &mut into)?;
-    }
-    Ok(into)
+fn settle(disk: &mut MemoryDisk, file: u64) -> Result<(), DiskFailed> {
+    disk.sync(file)
 }
 
 // The bytes of the first file of this image.
@@ -125,50 +72,52 @@ fn image_bytes(alloc: Global, disk: &MemoryDisk, choice: u8) -> Result<Vec<u8>, 
     }
 }
 
-#[test]
-fn disk_leaves_its_images(rt: HostRuntime) -> Result<(), Fail> {
-    let alloc = rt.alloc();
-    let mut disk = MemoryDisk::new(alloc);
-    put(&mut disk, 7, 0, "abcd")?;
-    disk.sync(7)?;
-    put(&mut disk, 7, 2, "xyz")?;
-    assert_eq!(rt; first_four(&mut disk, 7)?.as_slice(), "abxy".as_bytes());
-    assert_eq!(rt; (disk.moment(), disk.asked()), (7, 4));
-    assert_eq!(rt; image_bytes(alloc, &disk, 0)?.as_slice(), "abcd".as_bytes());
-    assert_eq!(rt;
-        image_bytes(alloc, &disk, 1)?.as_slice(),
-        "abxyz".as_bytes()
-    );
-    assert_eq!(rt;
-        image_bytes(alloc, &disk, 4)?.as_slice(),
-        "ab\x03\x03\x03".as_bytes()
-    );
-    Ok(())
+fn two_served(alloc: Global) -> Result<MemoryLinks, Fail> {
+    let disk = MemoryDisk::new(alloc);
+    let mut links = two_connections(alloc)?;
+    let mut into = [0; 4];
+    let _ = serve(&mut links, &disk, &mut into, "first")?;
+    let _ = serve(&mut links, &disk, &mut into, "second")?;
+    Ok(links)
 }
 
 #[test]
-fn disk_fails_at_its_calls(rt: HostRuntime) -> Result<(), Fail> {
-    let mut disk = MemoryDisk::new(rt.alloc());
-    disk.fail_calls(&[4])?;
-    disk.stop_at(6);
-    put(&mut disk, 1, 0, "abc")?;
-    assert!(rt; put(&mut disk, 1, 0, "xyz").is_err());
-    assert_eq!(rt; disk.length(1)?, 3);
-    assert!(rt; disk.sync(1).is_err());
+fn links_serve_one_connection_after_another(rt: HostRuntime) -> Result<(), Fail> {
+    let links = two_served(rt.alloc())?;
+    assert_eq!(rt; links.written(0), "first".as_bytes());
+    assert_eq!(rt; links.written(1), "second".as_bytes());
     Ok(())
+}
+
+fn settled_then_written(alloc: Global) -> Result<MemoryDisk, Fail> {
+    let mut disk = MemoryDisk::new(alloc);
+    put(&mut disk, 7, 0, "abcd")?;
+    settle(&mut disk, 7)?;
+    put(&mut disk, 7, 2, "xyz")?;
+    Ok(disk)
+}
+
+#[test]
+fn disk_leaves_its_images(rt: HostRuntime) -> Result<(), Fail> {
+    let disk = settled_then_written(rt.alloc())?;
+    let stable = image_bytes(rt.alloc(), &disk, 0)?;
+    assert_eq!(rt; stable.as_slice(), "abcd".as_bytes());
+    let filled = image_bytes(rt.alloc(), &disk, 4)?;
+    assert_eq!(rt; filled.as_slice(), "ab\x03\x03\x03".as_bytes());
+    Ok(())
+}
+
+fn begun_with_an_image(alloc: Global) -> Result<MemoryDisk, Fail> {
+    let disk = settled_then_written(alloc)?;
+    let image = disk.image(1)?.copy(alloc)?;
+    Ok(MemoryDisk::from_image(alloc, image))
 }
 
 #[test]
 fn disk_begins_with_an_image(rt: HostRuntime) -> Result<(), Fail> {
-    let alloc = rt.alloc();
-    let mut disk = MemoryDisk::new(alloc);
-    put(&mut disk, 7, 0, "abcd")?;
-    put(&mut disk, 8, 0, "x")?;
-    let image = disk.image(1)?.copy(alloc)?;
-    let mut again = MemoryDisk::from_image(alloc, image);
-    assert_eq!(rt; (again.moment(), again.asked()), (0, 0));
-    put(&mut again, 8, 1, "yz")?;
-    assert_eq!(rt; image_bytes(alloc, &again, 0)?.as_slice(), "x".as_bytes());
-    assert_eq!(rt; first_four(&mut again, 7)?.as_slice(), "abcd".as_bytes());
+    let mut disk = begun_with_an_image(rt.alloc())?;
+    put(&mut disk, 7, 5, "!")?;
+    let stable = image_bytes(rt.alloc(), &disk, 0)?;
+    assert_eq!(rt; stable.as_slice(), "abxyz".as_bytes());
     Ok(())
 }

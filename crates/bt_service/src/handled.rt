@@ -12,7 +12,8 @@ use std::alloc::Global;
 pub enum Handled {
     /// The reply was written whole.
     Answered,
-    /// The link failed, perhaps in the middle of the reply. The change of the line is made.
+    /// The link failed, perhaps in the middle of the reply. The change of the line, if it has
+    /// one, is made.
     LinkLost,
 }
 

@@ -22,12 +22,6 @@ pub enum WordsRefusal {
     OutOfMemory,
 }
 
-impl From<OutOfMemory> for WordsRefusal {
-    fn from(_: OutOfMemory) -> Self {
-        WordsRefusal::OutOfMemory
-    }
-}
-
 /// Reads the words of the command line, given without the program's name: `run DIR`, where DIR is
 /// not empty and does not begin with `-`.
 pub fn read_words(alloc: Global, words: &TextList) -> Result<Command, WordsRefusal>

@@ -30,9 +30,9 @@ abbrev pub GivesCell : Option Cell → Left → Left → Type 0
 GivesCell None old new = (old.cells ≡ []) × (new ≡ old)
 GivesCell (Some c) old new = (old.cells ≡ c ∷ new.cells) × (new.rows ≡ old.rows)
 
--- keys ascend strictly
+-- keys ascend strictly, also past a None
 abbrev pub GoesOnRow : Option (List ℕ) → Option (List ℕ) → Option (List ℕ) → Option Cell → Option Cell → Type 0
-GoesOnRow None key new_key cell new_cell = Unit {0}
+GoesOnRow None key new_key cell new_cell = new_key ≡ key
 GoesOnRow (Some k) key new_key cell new_cell = IfSome key (λ before. slice_cmp nat_cmp before k ≡ Less) × (new_key ≡ Some k) × (new_cell ≡ None)
 
 -- cells ascend strictly, have no labels, and have values of at most 4,194,304 bytes

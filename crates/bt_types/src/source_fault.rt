@@ -1,4 +1,6 @@
 //! Why rows cannot be read further.
+ghost use Rattle.std.specs.Prelude.{◌≡◌};
+
 use bt_base::OutOfMemory;
 
 /// Why a source of rows refused. It is then only dropped.
@@ -13,6 +15,10 @@ pub enum SourceFault {
 }
 
 impl From<OutOfMemory> for SourceFault {
+    ghost use Rattle.bt_types.specs.declared.source_fault.SourceFault.TheVariants.{OutOfMemory};
+
+    ghost from_gives = { λ _ fault. fault ≡ OutOfMemory };
+
     fn from(_: OutOfMemory) -> Self {
         SourceFault::OutOfMemory
     }

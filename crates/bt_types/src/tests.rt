@@ -1,5 +1,8 @@
-use crate::{Cell, FamilyName, Label, Micros, Qualifier, RowKey, TableName, cell_order};
-use bt_base::{Blob, Plain};
+use crate::{
+    Cell, CellList, FamilyName, FoundRow, Label, Micros, Mutation, Qualifier, RowKey, RowRange,
+    SourceFault, TableName, Text, cell_order,
+};
+use bt_base::{Blob, OutOfMemory, Plain};
 use std::alloc::Global;
 use std::cmp::Ordering;
 use std::test::Fail;
@@ -32,5 +35,25 @@ fn newer_cells_come_first(rt: HostRuntime) -> Result<(), Fail> {
     let new = cell(alloc, "f", b"q", 2000)?;
     assert!(rt; matches!(cell_order(&new, &old), Ordering::Less));
     assert!(rt; matches!(cell_order(&old, &old.copy(alloc)?), Ordering::Equal));
+    Ok(())
+}
+
+#[test]
+fn copies_have_what_their_sources_have(rt: HostRuntime) -> Result<(), Fail> {
+    let alloc = rt.alloc();
+    let mut cells = CellList::new(alloc);
+    cells.push(cell(alloc, "f", b"q", 1000)?)?;
+    let key = RowKey::new(alloc, b"r")?.ok_or("key")?;
+    let row = FoundRow { key, cells }.copy(alloc)?;
+    assert_eq!(rt; row.key.bytes(), b"r".as_slice());
+    assert_eq!(rt; row.cells.items().len(), 1);
+    let range = RowRange {
+        start: Blob::new(alloc, b"a")?,
+        end: Some(Blob::new(alloc, b"b")?),
+    };
+    assert!(rt; range.copy(alloc)?.end.is_some());
+    assert!(rt; matches!(Mutation::DeleteRow.copy(alloc)?, Mutation::DeleteRow));
+    assert_eq!(rt; Text::new(alloc, "run")?.copy(alloc)?.text(), "run");
+    assert_eq!(rt; SourceFault::from(OutOfMemory), SourceFault::OutOfMemory);
     Ok(())
 }
