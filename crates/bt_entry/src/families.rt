@@ -1,0 +1,76 @@
+//! The families of a table, read from the left.
+ghost use Rattle.std.specs.Prelude.{◌≡◌, ◌==◌, nat_le};
+ghost use Rattle.std.specs.Int.{w8, w16};
+ghost use Rattle.bt_entry.specs.Grammar.{most_families, last_name};
+ghost use Rattle.bt_entry.specs.Reading.{Gives, counted_at, families_at, family_at, number_with};
+
+use crate::fault::Fault;
+use crate::fields::{u8_at, u16_at};
+use crate::names::next_family_name_at;
+use crate::{Families, Family};
+use std::alloc::Global;
+
+const MOST_FAMILIES: u16 = 100;
+
+#[tactic(auto, unfolding(crate::specs::Reading::counted_at))]
+pub(crate) fn family_list_at(alloc: Global, bytes: &[u8]) -> Result<(Families, &[u8]), Fault>
+    ensures { Gives (λ x. (x.0, x.1.now)) result (counted_at w16 (λ n. nat_le n most_families) families_at bytes.now) }
+{
+    let (count, rest) = family_count_at(bytes)?;
+    families_at(alloc, count, rest)
+}
+
+#[tactic(auto, unfolding(crate::specs::Reading::number_with))]
+fn family_count_at(bytes: &[u8]) -> Result<(u16, &[u8]), Fault>
+    ensures { Gives (λ x. (x.0, x.1.now)) result (number_with w16 (λ n. nat_le n most_families) bytes.now) }
+{
+    let (count, rest) = u16_at(bytes)?;
+    if count > MOST_FAMILIES {
+        return Err(Fault::Bad { left: bytes.len() });
+    }
+    Ok((count, rest))
+}
+
+fn families_at(alloc: Global, count: u16, bytes: &[u8]) -> Result<(Families, &[u8]), Fault>
+    ensures { Gives (λ x. (x.0, x.1.now)) result (families_at count bytes.now) }
+{
+    let mut families = Families::new(alloc);
+    let mut rest = bytes;
+    for _ in 0..count {
+        let (family, after) = family_at(alloc, last_name(&families), rest)?;
+        families.push(family)?;
+        rest = after;
+    }
+    Ok((families, rest))
+}
+
+// The name of the last family, or no bytes, which come before every name.
+fn last_name(families: &Families) -> &[u8]
+    ensures { result.now ≡ last_name families.now }
+{
+    match families.items() {
+        [.., last] => last.name.bytes(),
+        [] => &[],
+    }
+}
+
+#[tactic(auto, unfolding(crate::specs::Reading::family_at))]
+fn family_at<'a>(alloc: Global, before: &[u8], bytes: &'a [u8]) -> Result<(Family, &'a [u8]), Fault>
+    ensures { Gives (λ x. (x.0, x.1.now)) result (family_at before.now bytes.now) }
+{
+    let (name, rest) = next_family_name_at(alloc, before, bytes)?;
+    let (_, rest) = no_rule_at(rest)?;
+    Ok((Family { name }, rest))
+}
+
+// The tag of a collection rule. No rule can be written yet.
+#[tactic(auto, unfolding(crate::specs::Reading::number_with))]
+fn no_rule_at(bytes: &[u8]) -> Result<(u8, &[u8]), Fault>
+    ensures { Gives (λ x. (x.0, x.1.now)) result (number_with w8 (λ n. n == 0) bytes.now) }
+{
+    let (tag, rest) = u8_at(bytes)?;
+    if tag != 0 {
+        return Err(Fault::Bad { left: bytes.len() });
+    }
+    Ok((tag, rest))
+}

@@ -1,0 +1,130 @@
+//! The batch that bytes spell.
+ghost use Rattle.std.specs.Prelude.{◌≡◌, ◌≤◌, ◌==◌, List, IfOk, Ok, nat_le};
+ghost use Rattle.std.specs.Int.{w32, w64};
+ghost use Rattle.bt_entry.specs.declared.numbered.Numbered.{Numbered};
+ghost use Rattle.bt_entry.specs.Grammar.{AreNumbered, IsSpellable};
+ghost use Rattle.bt_entry.specs.Spelling.{spelling};
+ghost use Rattle.bt_entry.specs.Reading.{Answers, Gives, batch_at, batch_in, create_at, entries_at, entry_at, number_with, numbered_at, row_at};
+
+use crate::families::family_list_at;
+use crate::fault::Fault;
+use crate::fields::{count_at, key_at, moment_at, u8_at, u64_at};
+use crate::mutations::mutation_list_at;
+use crate::names::table_name_at;
+use crate::{Batch, BatchRefusal, Entry, Numbered};
+use std::alloc::Global;
+
+/// The batch that the bytes spell, with entries numbered on from `first`.
+///
+/// Nothing is read that the format does not have: nothing may stand behind the last entry. The
+/// field at which reading stops is a number, a tag, a count, a length, or the bytes of a text: a
+/// length that its text cannot have stops it at the length, and a text that is no lawful name at
+/// its bytes.
+pub fn read_batch(alloc: Global, bytes: &[u8], first: u64) -> Result<Batch, BatchRefusal>
+    requires { first ≤ 9223372036854775807 }
+    // What is read is spelled so.
+    ensures found { IfOk result (λ b. IsSpellable b × AreNumbered first b × (bytes.now ≡ spelling b)) }
+    // What is spelled so is read, unless memory runs out.
+    ensures only { (batch : List Numbered) → IsSpellable batch → AreNumbered first batch → bytes.now ≡ spelling batch → Answers result (Ok batch) }
+    // Where the first bad field begins.
+    ensures exact { Answers result (batch_in first bytes.now) }
+{
+    match batch_at(alloc, bytes, first) {
+        Ok(batch) => Ok(batch),
+        Err(Fault::Bad { left }) => Err(BatchRefusal::BadEntry {
+            at: (bytes.len() - left) as u64,
+        }),
+        Err(Fault::OutOfMemory) => Err(BatchRefusal::OutOfMemory),
+    }
+}
+
+#[tactic(auto, unfolding(crate::specs::Reading::batch_at, crate::specs::Reading::counted_at))]
+fn batch_at(alloc: Global, bytes: &[u8], first: u64) -> Result<Batch, Fault>
+    requires { first ≤ 9223372036854775807 }
+    ensures { Gives (λ b. b) result (batch_at first bytes.now) }
+{
+    let (count, rest) = count_at(bytes)?;
+    let (batch, rest) = entries_at(alloc, first, count, rest)?;
+    if !rest.is_empty() {
+        return Err(Fault::Bad { left: rest.len() });
+    }
+    Ok(batch)
+}
+
+fn entries_at(alloc: Global, first: u64, count: u32, bytes: &[u8]) -> Result<(Batch, &[u8]), Fault>
+    requires { first ≤ 9223372036854775807 }
+    ensures { Gives (λ x. (x.0, x.1.now)) result (entries_at first count bytes.now) }
+{
+    let mut batch = Batch::new(alloc);
+    let mut rest = bytes;
+    for i in 0..count {
+        let sequence = first + u64::from(i);
+        let (numbered, after) = numbered_at(alloc, sequence, rest)?;
+        batch.push(numbered)?;
+        rest = after;
+    }
+    Ok((batch, rest))
+}
+
+#[tactic(auto, unfolding(crate::specs::Reading::numbered_at))]
+fn numbered_at(alloc: Global, sequence: u64, bytes: &[u8]) -> Result<(Numbered, &[u8]), Fault>
+    ensures { Gives (λ x. (x.0, x.1.now)) result (numbered_at sequence bytes.now) }
+{
+    let (moment, rest) = moment_at(bytes)?;
+    let (entry, rest) = entry_at(alloc, rest)?;
+    let numbered = Numbered {
+        sequence,
+        moment,
+        entry,
+    };
+    Ok((numbered, rest))
+}
+
+#[tactic(auto, unfolding(crate::specs::Reading::entry_at))]
+fn entry_at(alloc: Global, bytes: &[u8]) -> Result<(Entry, &[u8]), Fault>
+    ensures { Gives (λ x. (x.0, x.1.now)) result (entry_at bytes.now) }
+{
+    let (tag, rest) = u8_at(bytes)?;
+    match tag {
+        1 => row_at(alloc, rest),
+        3 => create_at(alloc, rest),
+        _ => Err(Fault::Bad { left: bytes.len() }),
+    }
+}
+
+#[tactic(auto, unfolding(crate::specs::Reading::row_at))]
+fn row_at(alloc: Global, bytes: &[u8]) -> Result<(Entry, &[u8]), Fault>
+    ensures { Gives (λ x. (x.0, x.1.now)) result (row_at bytes.now) }
+{
+    let (incarnation, rest) = u64_at(bytes)?;
+    let (key, rest) = key_at(alloc, rest)?;
+    let (mutations, rest) = mutation_list_at(alloc, rest)?;
+    let entry = Entry::Row {
+        incarnation,
+        key,
+        mutations,
+    };
+    Ok((entry, rest))
+}
+
+#[tactic(auto, unfolding(crate::specs::Reading::create_at))]
+fn create_at(alloc: Global, bytes: &[u8]) -> Result<(Entry, &[u8]), Fault>
+    ensures { Gives (λ x. (x.0, x.1.now)) result (create_at bytes.now) }
+{
+    let (name, rest) = table_name_at(alloc, bytes)?;
+    let (families, rest) = family_list_at(alloc, rest)?;
+    let (_, rest) = no_retention_at(rest)?;
+    Ok((Entry::Create { name, families }, rest))
+}
+
+// For how long changes are kept for streams. No stream can be written yet.
+#[tactic(auto, unfolding(crate::specs::Reading::number_with))]
+fn no_retention_at(bytes: &[u8]) -> Result<(u64, &[u8]), Fault>
+    ensures { Gives (λ x. (x.0, x.1.now)) result (number_with w64 (λ n. n == 0) bytes.now) }
+{
+    let (retention, rest) = u64_at(bytes)?;
+    if retention != 0 {
+        return Err(Fault::Bad { left: bytes.len() });
+    }
+    Ok((retention, rest))
+}
