@@ -44,6 +44,13 @@ impl<T> ListOf<T> {
         self.held.as_slice()
     }
 
+    /// The items, without a copy.
+    pub fn into_vec(self) -> Vec<T>
+        ensures { result.items ≡ self }
+    {
+        self.held
+    }
+
     pub fn is_empty(&self) -> bool
         ensures { IsTrue result ↔ (self.now ≡ []) }
     {
@@ -58,6 +65,16 @@ impl<T: Drop> ListOf<T> {
         ensures err { OnErr result (self.new ≡ self.old) }
     {
         self.held.push(item)?;
+        Ok(())
+    }
+
+    /// Puts these items at the end, in order. They are moved, not copied.
+    pub fn append(&mut self, more: ListOf<T>) -> Result<(), OutOfMemory>
+        ensures ok { OnOk result (self.new ≡ self.old ++ more) }
+        ensures err { OnErr result (self.new ≡ self.old) }
+    {
+        let ListOf { held: mut items } = more;
+        self.held.append(&mut items)?;
         Ok(())
     }
 
