@@ -1,5 +1,5 @@
 //! The name of a column family.
-ghost use Rattle.std.specs.Prelude.{◌≡◌, IfOk};
+ghost use Rattle.std.specs.Prelude.{◌≡◌, IsTrue, IfOk};
 ghost use Rattle.bt_types.specs.Grammar.{lawful, is_family_name};
 
 use crate::bytes_of_names::is_family;
@@ -38,7 +38,8 @@ impl FamilyName {
     }
 
     pub fn bytes(&self) -> &[u8]
-        ensures { result.now ≡ self.now }
+        ensures value { result.now ≡ self.now }
+        ensures lawful { IsTrue (is_family_name self.now) }
     {
         self.held.as_bytes()
     }

@@ -1,5 +1,5 @@
 //! A label of a cell.
-ghost use Rattle.std.specs.Prelude.{◌≡◌, IfOk};
+ghost use Rattle.std.specs.Prelude.{◌≡◌, IsTrue, IfOk};
 ghost use Rattle.bt_types.specs.Grammar.{lawful, is_label};
 
 use crate::bytes_of_names::is_label;
@@ -38,7 +38,8 @@ impl Label {
     }
 
     pub fn bytes(&self) -> &[u8]
-        ensures { result.now ≡ self.now }
+        ensures value { result.now ≡ self.now }
+        ensures lawful { IsTrue (is_label self.now) }
     {
         self.held.as_bytes()
     }

@@ -1,6 +1,6 @@
 //! The timestamp of a cell.
-ghost use Rattle.std.specs.Prelude.{◌≡◌, pos};
-ghost use Rattle.bt_types.specs.Time.{micros_of};
+ghost use Rattle.std.specs.Prelude.{◌≡◌, IsTrue, pos};
+ghost use Rattle.bt_types.specs.Time.{is_micros, micros_of};
 
 use bt_base::{OutOfMemory, Plain};
 use std::alloc::Global;
@@ -38,7 +38,8 @@ impl Micros {
     }
 
     pub fn number(self) -> i64
-        ensures { result ≡ pos self }
+        ensures value { result ≡ pos self }
+        ensures lawful { IsTrue (is_micros self) }
     {
         self.at as i64
     }

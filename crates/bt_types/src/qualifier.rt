@@ -1,5 +1,5 @@
 //! The name of a column within its family.
-ghost use Rattle.std.specs.Prelude.{◌≡◌, IfOk};
+ghost use Rattle.std.specs.Prelude.{◌≡◌, IsTrue, IfOk};
 ghost use Rattle.bt_types.specs.Grammar.{lawful, is_qualifier};
 
 use bt_base::{OutOfMemory, Plain};
@@ -39,7 +39,8 @@ impl Qualifier {
     }
 
     pub fn bytes(&self) -> &[u8]
-        ensures { result.now ≡ self.now }
+        ensures value { result.now ≡ self.now }
+        ensures lawful { IsTrue (is_qualifier self.now) }
     {
         &self.held
     }

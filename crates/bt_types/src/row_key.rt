@@ -1,5 +1,5 @@
 //! The key of a row.
-ghost use Rattle.std.specs.Prelude.{◌≡◌, IfOk, nat_eq, refl};
+ghost use Rattle.std.specs.Prelude.{◌≡◌, IsTrue, IfOk, nat_eq, refl};
 ghost use Rattle.std.specs.Ordering.{nat_cmp, as_partial_cmp};
 ghost use Rattle.std.specs.Cmp.Lexicographic.{pointwise, slice_cmp};
 ghost use Rattle.std.specs.Cmp.{partial_order_from_own_ties};
@@ -45,7 +45,8 @@ impl RowKey {
     }
 
     pub fn bytes(&self) -> &[u8]
-        ensures { result.now ≡ self.now }
+        ensures value { result.now ≡ self.now }
+        ensures lawful { IsTrue (is_row_key self.now) }
     {
         &self.held
     }

@@ -1,5 +1,5 @@
 //! The name of a table.
-ghost use Rattle.std.specs.Prelude.{◌≡◌, IfOk, nat_eq, refl};
+ghost use Rattle.std.specs.Prelude.{◌≡◌, IsTrue, IfOk, nat_eq, refl};
 ghost use Rattle.std.specs.Ordering.{nat_cmp, as_partial_cmp};
 ghost use Rattle.std.specs.Cmp.Lexicographic.{pointwise, slice_cmp};
 ghost use Rattle.std.specs.Cmp.{partial_order_from_own_ties};
@@ -64,7 +64,8 @@ impl TableName {
     }
 
     pub fn bytes(&self) -> &[u8]
-        ensures { result.now ≡ self.now }
+        ensures value { result.now ≡ self.now }
+        ensures lawful { IsTrue (is_table_name self.now) }
     {
         self.held.as_bytes()
     }
