@@ -31,6 +31,7 @@ pub use memory_disk::MemoryDisk;
 pub use memory_links::MemoryLinks;
 pub use memory_print::MemoryPrint;
 pub use print::Print;
+pub use tally::Tally;
 
 /// The files of an image.
 pub type FileList = ListOf<FileBytes>;

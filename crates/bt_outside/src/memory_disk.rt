@@ -1,8 +1,8 @@
 //! A disk in memory.
-ghost use Rattle.std.specs.Prelude.{◌≡◌, ◌↔◌, ◌<◌, ◌≤◌, ℕ, ◌++◌, [], Some, None, length, false, IsTrue, IsFalse, IfOk, OnOk, OnErr, IsPermutation};
+ghost use Rattle.std.specs.Prelude.{◌≡◌, ◌↔◌, ◌<◌, ◌≤◌, ℕ, ◌+◌, ◌++◌, [], Some, None, min, length, slice_range, false, IsTrue, IsFalse, IsErr, IfOk, OnOk, OnErr, IsPermutation};
 ghost use Rattle.std.proofs.Common.{inl};
-ghost use Rattle.bt_base.specs.Counts.{most, counted};
-ghost use Rattle.bt_outside.specs.Disk.{size, Holds, Shortened, Torn, TornCut, AtFile, Alike, Follows, NoMore, Settles, Elapses};
+ghost use Rattle.bt_base.specs.Counts.{most, counted, Counts};
+ghost use Rattle.bt_outside.specs.Disk.{size, max_length, Holds, Shortened, Torn, TornCut, AtFile, Alike, Follows, NoMore, Settles, Elapses};
 ghost use Rattle.bt_outside.specs.Model.{settled, Chosen};
 ghost use Rattle.bt_outside.specs.History.{held_of, LeftSince, Images, states_of, reads_as_image_lem, only_now_lem, sooner_lem};
 ghost use Rattle.bt_outside.specs.DiskSteps.{IsLook, IsStopped};
@@ -182,6 +182,8 @@ impl MemoryDisk {
     }
 }
 
+// The clauses of a method stand in place of the trait's, which they repeat for this disk: `planned`
+// and `plan` are its own.
 impl Disk for MemoryDisk {
     ghost tells = { Unit {0} };
 
@@ -209,7 +211,20 @@ impl Disk for MemoryDisk {
 
     ghost sooner = { λ d t u c _ le left. sooner_lem d.core t u c le left };
 
-    fn length(&mut self, file: u64) -> Result<u64, DiskFailed> {
+    fn length(&mut self, file: u64) -> Result<u64, DiskFailed>
+        ensures length { IfOk result (λ n. n ≡ size (held_of self.old.core) file) }
+        ensures limit { IfOk result (λ n. n ≤ max_length) }
+        ensures held { Alike (held_of self.old.core) (held_of self.new.core) }
+        ensures crash { NoMore (Images (states_of self.old.core)) (Images (states_of self.new.core)) }
+        ensures time { self.new.core.moment < most → Elapses self.old.core.moment self.new.core.moment (LeftSince self.old.core) (LeftSince self.new.core) (Images (states_of self.new.core)) }
+        ensures asked { self.new.asked ≡ self.old.asked }
+        ensures moment { self.new.core.moment ≡ counted self.old.core.moment }
+        ensures faults { Counts self.old.faults self.new.faults result }
+        ensures write_faults { self.new.write_faults ≡ self.old.write_faults }
+        ensures failing { IsTrue self.new.failing ↔ IsErr result }
+        ensures planned { IsStopped self.old.fails self.old.stop (counted self.old.core.moment) → IsErr result }
+        ensures plan { (self.new.fails ≡ self.old.fails) × (self.new.stop ≡ self.old.stop) }
+    {
         let stopped = is_stopped(&self.fails, self.stop, self.core.moment());
         let length = self.core.length(file);
         let done = look(
@@ -222,7 +237,20 @@ impl Disk for MemoryDisk {
         Ok(length)
     }
 
-    fn read(&mut self, file: u64, at: u64, into: &mut [u8]) -> Result<(), DiskFailed> {
+    fn read(&mut self, file: u64, at: u64, into: &mut [u8]) -> Result<(), DiskFailed>
+        requires { at + length into.old ≤ size (held_of self.old.core) file }
+        ensures bytes { OnOk result (into.new ≡ slice_range (held_of self.old.core file) at (at + length into.old)) }
+        ensures held { Alike (held_of self.old.core) (held_of self.new.core) }
+        ensures crash { NoMore (Images (states_of self.old.core)) (Images (states_of self.new.core)) }
+        ensures time { self.new.core.moment < most → Elapses self.old.core.moment self.new.core.moment (LeftSince self.old.core) (LeftSince self.new.core) (Images (states_of self.new.core)) }
+        ensures asked { self.new.asked ≡ min (self.old.asked + length into.old) most }
+        ensures moment { self.new.core.moment ≡ counted self.old.core.moment }
+        ensures faults { Counts self.old.faults self.new.faults result }
+        ensures write_faults { self.new.write_faults ≡ self.old.write_faults }
+        ensures failing { IsTrue self.new.failing ↔ IsErr result }
+        ensures planned { IsStopped self.old.fails self.old.stop (counted self.old.core.moment) → IsErr result }
+        ensures plan { (self.new.fails ≡ self.old.fails) × (self.new.stop ≡ self.old.stop) }
+    {
         let stopped = is_stopped(&self.fails, self.stop, self.core.moment());
         self.asked = self.asked.saturating_add(into.len() as u64);
         self.core.copy(file, at, into);
@@ -235,20 +263,59 @@ impl Disk for MemoryDisk {
         self.tally.look(done)
     }
 
-    fn write(&mut self, file: u64, at: u64, bytes: &[u8]) -> Result<(), DiskFailed> {
+    fn write(&mut self, file: u64, at: u64, bytes: &[u8]) -> Result<(), DiskFailed>
+        requires { at ≤ size (held_of self.old.core) file }
+        ensures written { OnOk result (AtFile file (Holds at bytes.now) (held_of self.old.core) (held_of self.new.core)) }
+        ensures torn { AtFile file (Torn at (length bytes.now)) (held_of self.old.core) (held_of self.new.core) }
+        ensures limit { OnOk result (at + length bytes.now ≤ max_length) }
+        ensures crash { Follows (AtFile file (Torn at (length bytes.now))) (Images (states_of self.old.core)) (Images (states_of self.new.core)) }
+        ensures time { self.new.core.moment < most → Elapses self.old.core.moment self.new.core.moment (LeftSince self.old.core) (LeftSince self.new.core) (Images (states_of self.new.core)) }
+        ensures asked { self.new.asked ≡ self.old.asked }
+        ensures moment { self.new.core.moment ≡ counted self.old.core.moment }
+        ensures faults { Counts self.old.faults self.new.faults result }
+        ensures write_faults { Counts self.old.write_faults self.new.write_faults result }
+        ensures failing { IsTrue self.new.failing ↔ IsErr result }
+        ensures planned { IsStopped self.old.fails self.old.stop (counted self.old.core.moment) → IsErr result }
+        ensures plan { (self.new.fails ≡ self.old.fails) × (self.new.stop ≡ self.old.stop) }
+    {
         let stopped = is_stopped(&self.fails, self.stop, self.core.moment());
         let far = at > MAX_LENGTH || bytes.len() as u64 > MAX_LENGTH - at;
         let done = write(&mut self.core, self.alloc, file, at, bytes, stopped || far);
         self.tally.change(done)
     }
 
-    fn cut(&mut self, file: u64, length: u64) -> Result<(), DiskFailed> {
+    fn cut(&mut self, file: u64, length: u64) -> Result<(), DiskFailed>
+        requires { length ≤ size (held_of self.old.core) file }
+        ensures cut { OnOk result (AtFile file (Shortened length) (held_of self.old.core) (held_of self.new.core)) }
+        ensures torn { AtFile file (TornCut length) (held_of self.old.core) (held_of self.new.core) }
+        ensures crash { Follows (AtFile file (TornCut length)) (Images (states_of self.old.core)) (Images (states_of self.new.core)) }
+        ensures time { self.new.core.moment < most → Elapses self.old.core.moment self.new.core.moment (LeftSince self.old.core) (LeftSince self.new.core) (Images (states_of self.new.core)) }
+        ensures asked { self.new.asked ≡ self.old.asked }
+        ensures moment { self.new.core.moment ≡ counted self.old.core.moment }
+        ensures faults { Counts self.old.faults self.new.faults result }
+        ensures write_faults { Counts self.old.write_faults self.new.write_faults result }
+        ensures failing { IsTrue self.new.failing ↔ IsErr result }
+        ensures planned { IsStopped self.old.fails self.old.stop (counted self.old.core.moment) → IsErr result }
+        ensures plan { (self.new.fails ≡ self.old.fails) × (self.new.stop ≡ self.old.stop) }
+    {
         let stopped = is_stopped(&self.fails, self.stop, self.core.moment());
         let done = cut(&mut self.core, file, length, stopped);
         self.tally.change(done)
     }
 
-    fn sync(&mut self, file: u64) -> Result<(), DiskFailed> {
+    fn sync(&mut self, file: u64) -> Result<(), DiskFailed>
+        ensures durable { OnOk result (Settles file (held_of self.old.core file) (Images (states_of self.new.core))) }
+        ensures held { Alike (held_of self.old.core) (held_of self.new.core) }
+        ensures crash { NoMore (Images (states_of self.old.core)) (Images (states_of self.new.core)) }
+        ensures time { self.new.core.moment < most → Elapses self.old.core.moment self.new.core.moment (LeftSince self.old.core) (LeftSince self.new.core) (Images (states_of self.new.core)) }
+        ensures asked { self.new.asked ≡ self.old.asked }
+        ensures moment { self.new.core.moment ≡ counted self.old.core.moment }
+        ensures faults { Counts self.old.faults self.new.faults result }
+        ensures write_faults { Counts self.old.write_faults self.new.write_faults result }
+        ensures failing { IsTrue self.new.failing ↔ IsErr result }
+        ensures planned { IsStopped self.old.fails self.old.stop (counted self.old.core.moment) → IsErr result }
+        ensures plan { (self.new.fails ≡ self.old.fails) × (self.new.stop ≡ self.old.stop) }
+    {
         let stopped = is_stopped(&self.fails, self.stop, self.core.moment());
         let done = sync(&mut self.core, file, stopped);
         self.tally.change(done)

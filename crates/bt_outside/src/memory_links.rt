@@ -1,7 +1,7 @@
 //! Links in memory.
-ghost use Rattle.std.specs.Prelude.{◌≡◌, ◌≢◌, ◌↔◌, ℕ, ◌+◌, ◌-◌, ◌<◌, ◌≤◌, ◌++◌, [], ◌∷◌, List, Option, Some, None, Bool, length, take, drop, map, min, get_or, if◌then◌else◌, IsTrue, Contains, IsPermutation, OnOk, OnErr};
-ghost use Rattle.bt_base.specs.Counts.{counted};
-ghost use Rattle.bt_outside.specs.Links.{Sent, fresh, joined, rest_of, Seen, IsOpen, Adds, AddsPart, Marks, LastGoes};
+ghost use Rattle.std.specs.Prelude.{◌≡◌, ◌≢◌, ◌↔◌, ℕ, ◌+◌, ◌-◌, ◌<◌, ◌≤◌, ◌++◌, [], ◌∷◌, List, Option, Some, None, Bool, length, take, drop, map, min, get_or, if◌then◌else◌, IsTrue, IsErr, IsSome, Contains, IsPermutation, OnOk, OnErr, IfOk};
+ghost use Rattle.bt_base.specs.Counts.{counted, Counts};
+ghost use Rattle.bt_outside.specs.Links.{Sent, fresh, joined, rest_of, Seen, IsOpen, Adds, AddsPart, Marks, LastGoes, WentOn};
 
 use crate::failing_calls::FailingCalls;
 use crate::kept::Kept;
@@ -161,6 +161,8 @@ impl MemoryLinks {
     }
 }
 
+// The clauses of a method stand in place of the trait's, which they repeat for these links:
+// `planned` and `plan` are their own.
 impl<D: Disk> Links<D> for MemoryLinks {
     ghost tells = { Unit {0} };
 
@@ -176,7 +178,15 @@ impl<D: Disk> Links<D> for MemoryLinks {
 
     ghost next_faults = { λ m. m.next_faults };
 
-    fn next(&mut self) -> Result<bool, LinkFailed> {
+    fn next(&mut self) -> Result<bool, LinkFailed>
+        ensures ok { IfOk result (λ more. WentOn more self.old.left self.new.left self.new.at_hand self.old.sent self.new.sent) }
+        ensures err { OnErr result ((self.new.left ≡ self.old.left) × (self.new.at_hand ≡ None) × (self.new.sent ≡ self.old.sent)) }
+        ensures faults { Counts self.old.faults self.new.faults result }
+        ensures noted { self.new.noted ≡ self.old.noted }
+        ensures next_faults { Counts self.old.next_faults self.new.next_faults result }
+        ensures planned { Contains self.old.fails (counted self.old.calls) → IsErr result }
+        ensures plan { (self.new.fails ≡ self.old.fails) × (self.new.calls ≡ counted self.old.calls) }
+    {
         self.is_open = false;
         let fails = is_failing(&mut self.calls, &self.fails);
         if !fails && self.next >= self.connections.items().len() {
@@ -195,7 +205,22 @@ impl<D: Disk> Links<D> for MemoryLinks {
         Ok(true)
     }
 
-    fn read(&mut self, into: &mut [u8]) -> Result<usize, LinkFailed> {
+    fn read(&mut self, into: &mut [u8]) -> Result<usize, LinkFailed>
+        requires at_hand { IsSome self.old.at_hand }
+        requires room { 0 < length into.old }
+        ensures count { IfOk result (λ n. n ≤ length into.old) }
+        ensures bytes { IfOk result (λ n. (rest : List ℕ) × (self.old.at_hand ≡ Some (take n into.new ++ rest)) × (self.new.at_hand ≡ Some rest)) }
+        ensures end { IfOk result (λ n. (n ≡ 0) ↔ (self.old.at_hand ≡ Some [])) }
+        ensures err { OnErr result (self.new.at_hand ≡ self.old.at_hand) }
+        ensures noted { self.new.noted ≡ self.old.noted }
+        ensures left { self.new.left ≡ self.old.left }
+        ensures sent { OnOk result (self.new.sent ≡ self.old.sent) }
+        ensures mark { OnErr result (LastGoes Marks self.old.sent self.new.sent) }
+        ensures faults { Counts self.old.faults self.new.faults result }
+        ensures next_faults { self.new.next_faults ≡ self.old.next_faults }
+        ensures planned { Contains self.old.fails (counted self.old.calls) → IsErr result }
+        ensures plan { (self.new.fails ≡ self.old.fails) × (self.new.calls ≡ counted self.old.calls) }
+    {
         if is_failing(&mut self.calls, &self.fails) {
             mark_last(&mut self.sent);
             self.faults = self.faults.saturating_add(1);
@@ -207,7 +232,18 @@ impl<D: Disk> Links<D> for MemoryLinks {
         }
     }
 
-    fn write(&mut self, bytes: &[u8], disk: &D) -> Result<(), LinkFailed> {
+    fn write(&mut self, bytes: &[u8], disk: &D) -> Result<(), LinkFailed>
+        requires { IsSome self.old.at_hand }
+        ensures ok { OnOk result (LastGoes (Adds bytes.now (D.moment disk.now)) self.old.sent self.new.sent) }
+        ensures err { OnErr result (LastGoes (AddsPart bytes.now (D.moment disk.now)) self.old.sent self.new.sent) }
+        ensures noted { self.new.noted ≡ Some (D.moment disk.now) }
+        ensures at_hand { self.new.at_hand ≡ self.old.at_hand }
+        ensures left { self.new.left ≡ self.old.left }
+        ensures faults { Counts self.old.faults self.new.faults result }
+        ensures next_faults { self.new.next_faults ≡ self.old.next_faults }
+        ensures planned { Contains self.old.fails (counted self.old.calls) → IsErr result }
+        ensures plan { (self.new.fails ≡ self.old.fails) × (self.new.calls ≡ counted self.old.calls) }
+    {
         let moment = disk.moment();
         self.noted = Some(moment);
         if is_failing(&mut self.calls, &self.fails) {

@@ -1,4 +1,4 @@
-//! The failed calls of a disk in memory.
+//! The failed calls of a disk.
 ghost use Rattle.std.specs.Prelude.{◌≡◌, ◌↔◌, false, IsTrue, IsOk, IsErr};
 ghost use Rattle.bt_base.specs.Counts.{Counts};
 
@@ -13,6 +13,7 @@ pub struct Tally {
 }
 
 impl Tally {
+    /// No call has failed.
     pub fn new() -> Tally
         ensures { result ≡ record { faults = 0; write_faults = 0; failing = false } }
     {

@@ -121,3 +121,23 @@ fn disk_begins_with_an_image(rt: HostRuntime) -> Result<(), Fail> {
     assert_eq!(rt; stable.as_slice(), "abxyz".as_bytes());
     Ok(())
 }
+
+fn fails_to_settle(disk: &mut MemoryDisk) -> bool {
+    disk.sync(7).is_err()
+}
+
+fn three_syncs(alloc: Global) -> Result<[bool; 3], Fail> {
+    let mut disk = MemoryDisk::new(alloc);
+    disk.fail_calls(&[2])?;
+    let first = fails_to_settle(&mut disk);
+    let second = fails_to_settle(&mut disk);
+    let third = fails_to_settle(&mut disk);
+    Ok([first, second, third])
+}
+
+#[test]
+fn disk_fails_its_planned_call(rt: HostRuntime) -> Result<(), Fail> {
+    let failed = three_syncs(rt.alloc())?;
+    assert_eq!(rt; failed, [false, true, false]);
+    Ok(())
+}
