@@ -78,3 +78,29 @@ next_sequence s n = s + 1
 -- entries are numbered on from the first
 abbrev pub AreNumbered : ℕ → List Numbered → Type 0
 AreNumbered first batch = AllFrom next_sequence (λ s n. n.sequence ≡ s) first batch
+
+-- What is asked of a writer: names, keys and timestamps are lawful by their types.
+-- only cells are set, and their values are not too long
+abbrev pub IsWritableMutation : Mutation → Type 0
+IsWritableMutation (SetCell family qualifier at value) = length value ≤ most_of_value
+IsWritableMutation (DeleteColumn family qualifier start end) = ⊥
+IsWritableMutation (DeleteFamily family) = ⊥
+IsWritableMutation DeleteRow = ⊥
+
+abbrev pub IsWritableMutations : List Mutation → Type 0
+IsWritableMutations mutations = (1 ≤ length mutations) × (length mutations < 2 ^ 32) × AllByRecursion IsWritableMutation mutations
+
+-- each name is above the one before it
+abbrev pub IsInOrder : List Family → Type 0
+IsInOrder fs = AllFrom name_of (λ before f. IsTrue (is_below before f.name)) [] fs
+
+abbrev pub IsWritableEntry : Entry → Type 0
+IsWritableEntry (Row incarnation key mutations) = IsWritableMutations mutations
+IsWritableEntry (Create name families) = (length families ≤ most_families) × IsInOrder families
+
+abbrev pub IsWritableNumbered : Numbered → Type 0
+IsWritableNumbered n = (n.moment ≤ last_moment) × IsWritableEntry n.entry
+
+-- at least one entry, and each within its limits
+abbrev pub IsWritable : List Numbered → Type 0
+IsWritable batch = (1 ≤ length batch) × (length batch < 2 ^ 32) × AllByRecursion IsWritableNumbered batch

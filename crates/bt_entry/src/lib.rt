@@ -9,6 +9,7 @@ mod mutations;
 mod names;
 mod numbered;
 mod reading;
+mod table_info;
 mod writing;
 
 use bt_base::ListOf;
@@ -16,6 +17,7 @@ pub use entry::{Entry, Family};
 pub use fault::BatchRefusal;
 pub use numbered::Numbered;
 pub use reading::read_batch;
+pub use table_info::TableInfo;
 pub use writing::write_batch;
 
 /// Families of a table, names ascending.

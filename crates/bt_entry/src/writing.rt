@@ -1,8 +1,9 @@
 //! The one spelling of a batch.
 ghost use Rattle.std.specs.Prelude.{◌≡◌, ◌++◌, ◌∷◌, [], ◌<◌, ◌≤◌, ◌^◌, length, IsTrue, OnOk, IfOk};
 ghost use Rattle.bt_types.specs.Grammar.{is_family_name, is_qualifier, is_row_key, is_table_name};
+ghost use Rattle.bt_types.specs.Time.{is_micros};
 ghost use Rattle.std.specs.Int.{w8, w16, w32, w64, to_be_bytes};
-ghost use Rattle.bt_entry.specs.Grammar.{Ascend, most_families, most_of_value, IsSpellable, IsSpellableEntry, IsSpellableMutation, IsSpellableMutations, IsSpellableNumbered};
+ghost use Rattle.bt_entry.specs.Grammar.{Ascend, IsInOrder, most_families, most_of_value, IsSpellable, IsSpellableEntry, IsSpellableMutation, IsSpellableMutations, IsSpellableNumbered, IsWritable, IsWritableEntry, IsWritableMutation, IsWritableMutations, IsWritableNumbered};
 ghost use Rattle.bt_entry.specs.Spelling.{entry, family, list, mutation, numbered, spelling, text};
 
 use crate::{Batch, Entry, Families, Family, Numbered};
@@ -11,10 +12,12 @@ use bt_types::{FamilyName, Micros, Mutation, MutationList, Qualifier, RowKey, Ta
 use std::alloc::{AllocError, Global};
 
 /// The bytes of a batch, as one record of the log holds them: the count of its entries and then
-/// each of them. Sequences are not written.
+/// each of them. Sequences are not written. What it gave can be read again: names, keys and
+/// timestamps are lawful by their types.
 pub fn write_batch(alloc: Global, batch: &Batch) -> Result<Blob, OutOfMemory>
-    requires { IsSpellable batch.now }
-    ensures { IfOk result (λ b. b ≡ spelling batch.now) }
+    requires { IsWritable batch.now }
+    ensures spelled { IfOk result (λ b. b ≡ spelling batch.now) }
+    ensures spellable { OnOk result (IsSpellable batch.now) }
 {
     let mut out = Vec::new(alloc);
     put_batch(&mut out, batch)?;
@@ -22,8 +25,9 @@ pub fn write_batch(alloc: Global, batch: &Batch) -> Result<Blob, OutOfMemory>
 }
 
 fn put_batch(out: &mut Vec<u8>, batch: &Batch) -> Result<(), AllocError>
-    requires { IsSpellable batch.now }
-    ensures { OnOk result (out.new.items ≡ out.old.items ++ spelling batch.now) }
+    requires { IsWritable batch.now }
+    ensures spelled { OnOk result (out.new.items ≡ out.old.items ++ spelling batch.now) }
+    ensures spellable { OnOk result (IsSpellable batch.now) }
 {
     let batch = batch.items();
     put_u32(out, batch.len() as u32)?;
@@ -34,16 +38,18 @@ fn put_batch(out: &mut Vec<u8>, batch: &Batch) -> Result<(), AllocError>
 }
 
 fn put_numbered(out: &mut Vec<u8>, n: &Numbered) -> Result<(), AllocError>
-    requires { IsSpellableNumbered n.now }
-    ensures { OnOk result (out.new.items ≡ out.old.items ++ numbered n.now) }
+    requires { IsWritableNumbered n.now }
+    ensures spelled { OnOk result (out.new.items ≡ out.old.items ++ numbered n.now) }
+    ensures spellable { OnOk result (IsSpellableNumbered n.now) }
 {
     put_u64(out, n.moment)?;
     put_entry(out, &n.entry)
 }
 
 fn put_entry(out: &mut Vec<u8>, e: &Entry) -> Result<(), AllocError>
-    requires { IsSpellableEntry e.now }
-    ensures { OnOk result (out.new.items ≡ out.old.items ++ entry e.now) }
+    requires { IsWritableEntry e.now }
+    ensures spelled { OnOk result (out.new.items ≡ out.old.items ++ entry e.now) }
+    ensures spellable { OnOk result (IsSpellableEntry e.now) }
 {
     match e {
         Entry::Row {
@@ -67,8 +73,9 @@ fn put_entry(out: &mut Vec<u8>, e: &Entry) -> Result<(), AllocError>
 }
 
 fn put_mutations(out: &mut Vec<u8>, mutations: &MutationList) -> Result<(), AllocError>
-    requires { IsSpellableMutations mutations.now }
-    ensures { OnOk result (out.new.items ≡ out.old.items ++ list w32 mutation mutations.now) }
+    requires { IsWritableMutations mutations.now }
+    ensures spelled { OnOk result (out.new.items ≡ out.old.items ++ list w32 mutation mutations.now) }
+    ensures spellable { OnOk result (IsSpellableMutations mutations.now) }
 {
     let mutations = mutations.items();
     put_u32(out, mutations.len() as u32)?;
@@ -79,8 +86,9 @@ fn put_mutations(out: &mut Vec<u8>, mutations: &MutationList) -> Result<(), Allo
 }
 
 fn put_mutation(out: &mut Vec<u8>, m: &Mutation) -> Result<(), AllocError>
-    requires { IsSpellableMutation m.now }
-    ensures { OnOk result (out.new.items ≡ out.old.items ++ mutation m.now) }
+    requires { IsWritableMutation m.now }
+    ensures spelled { OnOk result (out.new.items ≡ out.old.items ++ mutation m.now) }
+    ensures spellable { OnOk result (IsSpellableMutation m.now) }
 {
     match m {
         Mutation::SetCell {
@@ -101,8 +109,9 @@ fn put_mutation(out: &mut Vec<u8>, m: &Mutation) -> Result<(), AllocError>
 }
 
 fn put_families(out: &mut Vec<u8>, families: &Families) -> Result<(), AllocError>
-    requires { (length families.now ≤ most_families) × Ascend families.now }
-    ensures { OnOk result (out.new.items ≡ out.old.items ++ list w16 family families.now) }
+    requires { (length families.now ≤ most_families) × IsInOrder families.now }
+    ensures spelled { OnOk result (out.new.items ≡ out.old.items ++ list w16 family families.now) }
+    ensures spellable { OnOk result (Ascend families.now) }
 {
     let families = families.items();
     put_u16(out, families.len() as u16)?;
@@ -113,8 +122,8 @@ fn put_families(out: &mut Vec<u8>, families: &Families) -> Result<(), AllocError
 }
 
 fn put_family(out: &mut Vec<u8>, f: &Family) -> Result<(), AllocError>
-    requires { IsTrue (is_family_name f.now.name) }
-    ensures { OnOk result (out.new.items ≡ out.old.items ++ family f.now) }
+    ensures spelled { OnOk result (out.new.items ≡ out.old.items ++ family f.now) }
+    ensures lawful { OnOk result (IsTrue (is_family_name f.now.name)) }
 {
     put_family_name(out, &f.name)?;
     out.push(0)?;
@@ -122,35 +131,36 @@ fn put_family(out: &mut Vec<u8>, f: &Family) -> Result<(), AllocError>
 }
 
 fn put_family_name(out: &mut Vec<u8>, name: &FamilyName) -> Result<(), AllocError>
-    requires { IsTrue (is_family_name name.now) }
-    ensures { OnOk result (out.new.items ≡ out.old.items ++ text w8 name.now) }
+    ensures spelled { OnOk result (out.new.items ≡ out.old.items ++ text w8 name.now) }
+    ensures lawful { IsTrue (is_family_name name.now) }
 {
     put_text8(out, name.bytes())
 }
 
 fn put_table_name(out: &mut Vec<u8>, name: &TableName) -> Result<(), AllocError>
-    requires { IsTrue (is_table_name name.now) }
-    ensures { OnOk result (out.new.items ≡ out.old.items ++ text w16 name.now) }
+    ensures spelled { OnOk result (out.new.items ≡ out.old.items ++ text w16 name.now) }
+    ensures lawful { IsTrue (is_table_name name.now) }
 {
     put_text16(out, name.bytes())
 }
 
 fn put_key(out: &mut Vec<u8>, key: &RowKey) -> Result<(), AllocError>
-    requires { IsTrue (is_row_key key.now) }
-    ensures { OnOk result (out.new.items ≡ out.old.items ++ text w16 key.now) }
+    ensures spelled { OnOk result (out.new.items ≡ out.old.items ++ text w16 key.now) }
+    ensures lawful { IsTrue (is_row_key key.now) }
 {
     put_text16(out, key.bytes())
 }
 
 fn put_qualifier(out: &mut Vec<u8>, qualifier: &Qualifier) -> Result<(), AllocError>
-    requires { IsTrue (is_qualifier qualifier.now) }
-    ensures { OnOk result (out.new.items ≡ out.old.items ++ text w16 qualifier.now) }
+    ensures spelled { OnOk result (out.new.items ≡ out.old.items ++ text w16 qualifier.now) }
+    ensures lawful { IsTrue (is_qualifier qualifier.now) }
 {
     put_text16(out, qualifier.bytes())
 }
 
 fn put_micros(out: &mut Vec<u8>, at: Micros) -> Result<(), AllocError>
-    ensures { OnOk result (out.new.items ≡ out.old.items ++ to_be_bytes w64 at) }
+    ensures spelled { OnOk result (out.new.items ≡ out.old.items ++ to_be_bytes w64 at) }
+    ensures lawful { IsTrue (is_micros at) }
 {
     put_u64(out, at.number() as u64)
 }

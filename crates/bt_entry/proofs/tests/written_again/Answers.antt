@@ -1,0 +1,36 @@
+use Rattle.std.proofs.Common.{ℕ, List, [], ◌∷◌}
+use Rattle.std.specs.Prelude.{IsTrue}
+use Rattle.std.specs.List.{AllByRecursion}
+use Rattle.std.proofs.lemmas.Bool.{and_parts}
+use Rattle.bt_types.specs.Grammar.{is_family_name}
+use Rattle.bt_types.specs.declared.mutation.Mutation.{Mutation}
+use Rattle.bt_types.specs.declared.mutation.Mutation.TheVariants.{SetCell, DeleteColumn, DeleteFamily, DeleteRow}
+use Rattle.bt_entry.specs.declared.entry.Family.{Family}
+use Rattle.bt_entry.specs.declared.entry.Entry.{Entry}
+use Rattle.bt_entry.specs.declared.entry.Entry.TheVariants.{Row, Create}
+use Rattle.bt_entry.specs.declared.numbered.Numbered.{Numbered}
+use Rattle.bt_entry.specs.Grammar.{AllFrom, name_of, is_below, is_family_behind, IsSpellableEntry, IsSpellableMutation, IsSpellableNumbered, IsWritableEntry, IsWritableMutation, IsWritableNumbered}
+use Rattle.bt_entry.proofs.tests.written_again.Goals as goal
+
+mutations : (ms : List Mutation) → AllByRecursion IsSpellableMutation ms → AllByRecursion IsWritableMutation ms
+mutations [] all = tt
+mutations (SetCell family qualifier at value ∷ ms) all = (all.0.3, mutations ms all.1)
+mutations (DeleteColumn family qualifier start end ∷ ms) all = absurd all.0
+mutations (DeleteFamily family ∷ ms) all = absurd all.0
+mutations (DeleteRow ∷ ms) all = absurd all.0
+
+order : (before : List ℕ) (fs : List Family) → AllFrom name_of (λ b f. IsTrue (is_family_behind b f.name)) before fs → AllFrom name_of (λ b f. IsTrue (is_below b f.name)) before fs
+order before [] all = tt
+order before (f ∷ fs) all = ((and_parts (is_family_name f.name) (is_below before f.name) all.0).1, order f.name fs all.1)
+
+entry : (e : Entry) → IsSpellableEntry e → IsWritableEntry e
+entry (Row incarnation key ms) is = (is.2.0, is.2.1, mutations ms is.2.2)
+entry (Create name families) is = (is.1, order [] families is.2)
+
+entries : (batch : List Numbered) → AllByRecursion IsSpellableNumbered batch → AllByRecursion IsWritableNumbered batch
+entries [] all = tt
+entries (n ∷ ns) all = ((all.0.0, entry n.entry all.0.1), entries ns all.1)
+
+-- what was read can be written
+pub write_batch-requires : goal.write_batch-requires
+write_batch-requires c = let found = c.in-Ok.ensures.found in (found.0.0, found.0.1, entries _ found.0.2)
