@@ -1,0 +1,5 @@
+pub mod Place
+pub mod Segment
+pub mod Log
+pub mod Reads
+pub mod Staged
