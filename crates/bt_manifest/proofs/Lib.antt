@@ -1,0 +1,8 @@
+pub mod Codecs
+pub mod Many
+pub mod Snapshots
+pub mod Parts
+pub mod Lengths
+pub mod SlotReads
+pub mod Counting
+pub mod Publishes

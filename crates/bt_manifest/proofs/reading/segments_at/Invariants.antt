@@ -1,0 +1,7 @@
+use Rattle.std.proofs.Common.{◌≡◌, ◌-◌}
+use Rattle.bt_manifest.specs.Reading.{segments_at}
+use Rattle.bt_manifest.proofs.Many.{with_front}
+use Rattle.bt_manifest.proofs.reading.segments_at.Given as goal
+
+abbrev pub invariant-loop : goal.invariant-loop
+invariant-loop l = with_front l.segments (segments_at (l.count - l.counter) l.rest) ≡ segments_at l.count l.bytes
