@@ -1,11 +1,12 @@
 //! The rows of a table.
-ghost use Rattle.std.specs.Prelude.{◌≡◌, [], ◌∷◌, None, OnOk, OnErr};
+ghost use Rattle.std.specs.Prelude.{◌≡◌, ◌≤◌, [], ◌∷◌, length, None, OnOk, OnErr};
 ghost use Rattle.bt_types.specs.declared.mutation.Mutation.TheVariants.{SetCell};
 ghost use Rattle.bt_state.specs.Contents.{HaveCells, put_row};
+ghost use Rattle.bt_state.specs.Places.{AreSets};
 
 use crate::row::Row;
 use bt_base::OutOfMemory;
-use bt_types::{Cell, RowKey};
+use bt_types::{Cell, MutationList, RowKey};
 use std::alloc::Global;
 use std::collections::BTreeMap;
 use std::marker::Model;
@@ -59,6 +60,30 @@ impl Contents {
             None => {
                 let mut row = Row::new(alloc);
                 row.set(cell)?;
+                self.rows.insert(key, row)?;
+                Ok(())
+            }
+        }
+    }
+
+    /// Makes the changes of a list in order in the row at a key, which may be new, all or none.
+    /// Cells are set (`google.bigtable.v2.Mutation.SetCell`); nothing is deleted yet.
+    pub fn change(
+        &mut self,
+        alloc: Global,
+        key: RowKey,
+        mutations: MutationList,
+    ) -> Result<(), OutOfMemory>
+        requires some { 1 ≤ length mutations }
+        requires sets { AreSets mutations }
+        ensures ok { OnOk result (self.new ≡ put_row key mutations self.old) }
+        ensures err { OnErr result (self.new ≡ self.old) }
+    {
+        match self.rows.get_mut(&key) {
+            Some(row) => row.change(mutations),
+            None => {
+                let mut row = Row::new(alloc);
+                row.change(mutations)?;
                 self.rows.insert(key, row)?;
                 Ok(())
             }

@@ -1,11 +1,14 @@
 //! The cells of a row.
-ghost use Rattle.std.specs.Prelude.{◌≡◌, [], None, OnOk, OnErr};
+ghost use Rattle.std.specs.Prelude.{◌≡◌, ◌+◌, ◌<◌, ◌≤◌, List, [], None, length, OnOk, OnErr, vec_len};
+ghost use Rattle.std.specs.Vec.{vec_capacity};
+ghost use Rattle.bt_types.specs.declared.mutation.Mutation.TheVariants.{SetCell};
 ghost use Rattle.bt_types.specs.Cells.{IsRow};
-ghost use Rattle.bt_types.specs.Mutations.{set_cell};
-ghost use Rattle.bt_state.specs.Places.{IsPlace};
+ghost use Rattle.bt_types.specs.declared.cell.Cell.{Cell};
+ghost use Rattle.bt_types.specs.Mutations.{applied, mutated, set_cell};
+ghost use Rattle.bt_state.specs.Places.{IsPlace, IsSet, AreSets};
 
 use bt_base::OutOfMemory;
-use bt_types::{Cell, CellList, cell_order};
+use bt_types::{Cell, Mutation, MutationList, cell_order};
 use std::alloc::Global;
 use std::marker::Model;
 
@@ -13,7 +16,7 @@ use std::marker::Model;
 /// sees the list of them in the order in which rows are read (`bt_types::cell_order`).
 #[derive(Debug, Drop)]
 pub struct Row {
-    held: CellList,
+    held: Vec<Cell>,
 }
 
 impl Model for Row {
@@ -23,9 +26,9 @@ impl Model for Row {
 
     ghost Value = { List Cell };
 
-    ghost view = { λ r. r.held };
+    ghost view = { λ r. r.held.items };
 
-    ghost invariant = { λ r. IsRow r.held };
+    ghost invariant = { λ r. IsRow r.held.items };
 }
 
 impl Row {
@@ -34,7 +37,7 @@ impl Row {
         ensures { result ≡ [] }
     {
         Row {
-            held: CellList::new(alloc),
+            held: Vec::new(alloc),
         }
     }
 
@@ -42,7 +45,7 @@ impl Row {
         ensures all { result.now ≡ self.now }
         ensures row { IsRow self.now }
     {
-        self.held.items()
+        self.held.as_slice()
     }
 
     /// Puts a cell in place of the one of its column and timestamp, or where it belongs
@@ -52,21 +55,75 @@ impl Row {
         ensures ok { OnOk result (self.new ≡ set_cell cell self.old) }
         ensures err { OnErr result (self.new ≡ self.old) }
     {
-        match self.place(&cell) {
-            Ok(place) => {
-                self.held.set(place, cell);
-                Ok(())
-            }
-            Err(place) => self.held.insert(place, cell),
-        }
+        self.held.reserve(1)?;
+        put(&mut self.held, cell);
+        Ok(())
     }
 
-    // Where the cell of the same key is, or where this one goes.
-    fn place(&self, cell: &Cell) -> Result<usize, usize>
-        ensures { IsPlace cell.now self.now result }
+    /// Makes the changes of a list in order, all or none. Cells are set
+    /// (`google.bigtable.v2.Mutation.SetCell`); nothing is deleted yet.
+    pub fn change(&mut self, mutations: MutationList) -> Result<(), OutOfMemory>
+        requires { AreSets mutations }
+        ensures ok { OnOk result (self.new ≡ applied mutations self.old) }
+        ensures err { OnErr result (self.new ≡ self.old) }
     {
-        self.held
-            .items()
-            .binary_search_by(|other| cell_order(other, cell))
+        let mutations = mutations.into_vec();
+        self.held.reserve(mutations.len())?;
+        put_all(&mut self.held, mutations);
+        Ok(())
     }
+}
+
+fn put_all(held: &mut Vec<Cell>, mutations: Vec<Mutation>)
+    requires row { IsRow held.old.items }
+    requires room { vec_len held.old + vec_len mutations ≤ vec_capacity held.old }
+    requires sets { AreSets mutations.items }
+    ensures put { held.new.items ≡ applied mutations.items held.old.items }
+    ensures row { IsRow held.new.items }
+{
+    for mutation in mutations {
+        put(held, cell_of(mutation));
+    }
+}
+
+fn cell_of(mutation: Mutation) -> Cell
+    requires { IsSet mutation }
+    ensures plain { result.label ≡ None }
+    ensures cell { (row : List Cell) → mutated mutation row ≡ set_cell result row }
+{
+    match mutation {
+        Mutation::SetCell {
+            family,
+            qualifier,
+            at,
+            value,
+        } => Cell::plain(family, qualifier, at, value),
+        _ => unreachable!(),
+    }
+}
+
+// Puts a cell where there is room for one more.
+fn put(held: &mut Vec<Cell>, cell: Cell)
+    requires row { IsRow held.old.items }
+    requires room { vec_len held.old < vec_capacity held.old }
+    requires plain { cell.label ≡ None }
+    ensures put { held.new.items ≡ set_cell cell held.old.items }
+    ensures row { IsRow held.new.items }
+    ensures room { vec_len held.new ≤ vec_len held.old + 1 }
+    ensures capacity { vec_capacity held.old ≤ vec_capacity held.new }
+{
+    match place(held, &cell) {
+        Ok(place) => held[place] = cell,
+        Err(place) => {
+            let _put = held.insert(place, cell);
+        }
+    }
+}
+
+// Where the cell of the same key is, or where this one goes.
+fn place(held: &[Cell], cell: &Cell) -> Result<usize, usize>
+    requires { IsRow held.now }
+    ensures { IsPlace cell.now held.now result }
+{
+    held.binary_search_by(|other| cell_order(other, cell))
 }

@@ -2,11 +2,11 @@ use Rattle.std.proofs.Common.{rules}
 use Rattle.std.proofs.lemmas.Fn.{always_returns_same}
 use Rattle.bt_types.specs.Cells.{cell_cmp}
 use Rattle.bt_state.proofs.Cells.{searched}
-use Rattle.bt_state.proofs.row.Row.place.Goals as goal
+use Rattle.bt_state.proofs.row.place.Goals as goal
 
--- the closure compares with the cell, and the slice is the row's cells
+-- the closure compares with the cell
 pub returns : goal.returns
 returns c =
     let facts = c.binary_search_by.ensures in
     let by_order = facts.position (λ d. cell_cmp d c.args.cell.now) (always_returns_same _ _ _ (λ a r f called. (search rules, search rules))) in
-    rw (← c.self.view_is, ← c.items.ensures) (searched _ _ _ (rw c.items.ensures c.self.invariant.ordered) facts.bound by_order)
+    searched _ _ _ c.requires.ordered facts.bound by_order
