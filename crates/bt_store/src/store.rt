@@ -1,0 +1,156 @@
+//! The tables in memory, and the log that holds them.
+ghost use Rattle.std.specs.Prelude.{◌≡◌, ◌<◌, ◌≤◌, [], ◌∷◌, List, length, Ok, Err, OnOk, IfOk, IfErr};
+ghost use Rattle.bt_base.specs.Counts.{counted};
+ghost use Rattle.bt_entry.specs.Grammar.{last_moment};
+ghost use Rattle.bt_crash.specs.Moments.{Keeps};
+ghost use Rattle.bt_crash.specs.Changes.{StepsThrough};
+ghost use Rattle.bt_gate.specs.Faults.{Failed, WriteFailed};
+ghost use Rattle.bt_state.specs.States.{State, IsLawful, after, after_record, greatest_sequence, moment_used, present_after};
+ghost use Rattle.bt_store.specs.Held.{HoldsState, IsBroken, LikeSome, disk_state};
+ghost use Rattle.bt_store.specs.Stands.{Stands};
+ghost use Rattle.bt_store.specs.Faults.{event, body_of, IsTooLarge, IsRefused, IsCommitFault, IsLoadFault, IsStageFault};
+
+use crate::begun::begin;
+use crate::limits::Limits;
+use crate::loaded::load_from;
+use crate::staging::spell;
+use bt_entry::Entry;
+use bt_gate::LogFault;
+use bt_log::{Log, Record};
+use bt_manifest::load_manifest;
+use bt_outside::Disk;
+use bt_state::{Present, Schema};
+use std::alloc::Global;
+use std::marker::Model;
+
+/// The tables in memory, with the log that holds their entries. It does not hold the disk: each
+/// call is given it.
+#[derive(Drop)]
+pub struct Store {
+    present: Present,
+    log: Log,
+    limits: Limits,
+}
+
+impl Model for Store {
+    ghost use Rattle.std.specs.Prelude.{◌≤◌};
+    ghost use Rattle.bt_entry.specs.Grammar.{last_moment};
+    ghost use Rattle.bt_store.specs.Stands.{Seen};
+
+    ghost Value = { Seen };
+
+    ghost view = { λ s. record { present = s.present; log = s.log; limits = s.limits } };
+
+    ghost invariant = { λ s. s.present.floor ≤ last_moment };
+}
+
+impl Store {
+    /// A store of these parts.
+    pub(crate) fn new(present: Present, log: Log, limits: Limits) -> Store
+        requires { present.floor ≤ last_moment }
+        ensures { result ≡ (record { present = present; log = log; limits = limits }) }
+    {
+        Store {
+            present,
+            log,
+            limits,
+        }
+    }
+
+    /// Loads the state that the files stand for. A disk on which no slot of the manifest is opened
+    /// stands for the state before the first entry: then an empty log is made in file 2, and the
+    /// manifest names it. A crash at each moment leaves files that stand for what those before did.
+    ///
+    /// It answers `Damaged` only where the files stand for no state, with the first place that is
+    /// outside the format: a slot of the manifest, or a record of the log, or place 0 of the log
+    /// where an entry may not come behind those before it. It answers `DiskFailed` where a call of
+    /// the disk failed, which is then its last; and `OutOfMemory`.
+    pub fn load<D: Disk>(alloc: Global, disk: &mut D, limits: &Limits) -> Result<Store, LogFault>
+        ensures stands { D.tells → IfOk result (λ store. (s : State) × (disk_state (D.held disk.old) ≡ Ok s) × Stands store s (D.held disk.new) (D.may_leave disk.new)) }
+        ensures any_moment { Keeps D.Disk disk.old disk.new (LikeSome (D.may_leave disk.old)) }
+        ensures fault { IfErr result (IsLoadFault (Failed D.Disk disk.old disk.new) (λ file at. D.tells → IsBroken (D.held disk.old) file at)) }
+        ensures limits { IfOk result (λ store. store.limits ≡ limits.now) }
+    {
+        let Some((snapshot, generation)) = load_manifest(alloc, disk)? else {
+            return begin(alloc, disk, limits);
+        };
+        load_from(alloc, disk, limits, &snapshot, generation)
+    }
+
+    /// Commits an entry that may come next, at its moment in microseconds since 1970: adds it to the
+    /// log, in four calls of the disk, and makes its change. A crash at each moment leaves the state
+    /// before the entry or the one behind it, and after `Ok` the one behind it.
+    ///
+    /// It answers `TooLarge` where the body of the entry's record, which has `length` bytes, is
+    /// longer than the limit, or where no sequence is left; and `OutOfMemory`. Both come before the
+    /// first call of the disk, and nothing has changed. It answers `DiskFailed` where a call of the
+    /// disk failed: the disk has then the state with the entry or without, and the store is only
+    /// dropped.
+    pub fn commit<D: Disk>(
+        &mut self,
+        alloc: Global,
+        disk: &mut D,
+        entry: Entry,
+        moment: u64,
+    ) -> Result<(), LogFault>
+        requires stands { D.tells → (s : State) × Stands self.old s (D.held disk.old) (D.may_leave disk.old) }
+        requires lawful { IsLawful self.old.present (event moment entry) }
+        ensures stands { (s : State) → D.tells → Stands self.old s (D.held disk.old) (D.may_leave disk.old) → OnOk result (Stands self.new (after s (event moment entry)) (D.held disk.new) (D.may_leave disk.new)) }
+        ensures any_moment { (s : State) → (D.tells → Stands self.old s (D.held disk.old) (D.may_leave disk.old)) → StepsThrough D.Disk HoldsState after_record s ((event moment entry ∷ []) ∷ []) disk.old disk.new }
+        ensures present { OnOk result (self.new.present ≡ present_after self.old.present (event moment entry)) }
+        ensures limits { self.new.limits ≡ self.old.limits }
+        ensures large { IsTooLarge self.old (event moment entry) → IsRefused (length (body_of (event moment entry))) result }
+        ensures fault { IfErr result (IsCommitFault self.old (event moment entry) (WriteFailed D.Disk disk.old disk.new) ((disk.new ≡ disk.old) × (self.new ≡ self.old))) }
+        ensures fine { OnOk result ((D.faults disk.new ≡ D.faults disk.old) × (D.write_faults disk.new ≡ D.write_faults disk.old)) }
+        ensures four { OnOk result (D.moment disk.new ≡ counted (counted (counted (counted (D.moment disk.old))))) }
+    {
+        let (entry, body) = spell(alloc, entry, moment)?;
+        let staged = self.stage(alloc, body.bytes())?;
+        // All memory is taken before the first call of the disk.
+        self.present.apply(alloc, entry, moment)?;
+        self.log.add(disk, &staged)?;
+        Ok(())
+    }
+
+    // The record of the next entry, whose body has these bytes.
+    fn stage(&self, alloc: Global, body: &[u8]) -> Result<Record, LogFault>
+        ensures some { IfOk result (λ r. (r ≡ body.now) × (length body.now ≤ self.now.limits.body) × (self.now.present.last < greatest_sequence)) }
+        ensures fault { IfErr result (IsStageFault self.now (length body.now)) }
+    {
+        if self.present.is_full() {
+            let length = body.len() as u64;
+            return Err(LogFault::TooLarge { length });
+        }
+        Record::new(alloc, body, self.limits.body)
+    }
+
+    /// The tables as they are.
+    pub fn present(&self) -> &Present
+        ensures { result.now ≡ self.now.present }
+    {
+        &self.present
+    }
+
+    /// What is known of the tables besides their rows.
+    pub fn schema(&self) -> &Schema
+        ensures { result.now ≡ self.now.present.schema }
+    {
+        self.present.schema()
+    }
+
+    /// The sequence of the last entry, or 0.
+    pub fn last_sequence(&self) -> u64
+        ensures { result ≡ self.now.present.last }
+    {
+        self.present.last_sequence()
+    }
+
+    /// The moment to use for a reading of the clock, in microseconds since 1970: moments never
+    /// fall, and none is past the year 9999.
+    pub fn moment_used(&self, reading: u64) -> u64
+        ensures moment { result ≡ moment_used self.now.present.floor reading }
+        ensures within { result ≤ last_moment }
+    {
+        self.present.moment_used(reading)
+    }
+}

@@ -1,0 +1,75 @@
+//! A store over a disk in memory, and what a crash leaves of it.
+use crate::{Limits, Store, StoreFault};
+use bt_entry::{Entry, Families};
+use bt_outside::{Disk, MemoryDisk};
+use bt_types::TableName;
+use std::alloc::Global;
+use std::test::Fail;
+
+fn load(alloc: Global, disk: &mut MemoryDisk) -> Result<Store, StoreFault> {
+    Store::load(alloc, disk, &Limits::standard())
+}
+
+fn table_name(alloc: Global) -> Result<TableName, Fail> {
+    Ok(TableName::in_instance(alloc, "projects/p/instances/i", "t")?.ok_or("table")?)
+}
+
+fn has_table(alloc: Global, disk: &mut MemoryDisk) -> Result<bool, Fail> {
+    let store = load(alloc, disk)?;
+    Ok(store.schema().table(&table_name(alloc)?).is_some())
+}
+
+// Loads the store, commits a table without families, and gives the sequence of its entry.
+fn create_table(alloc: Global, disk: &mut MemoryDisk, name: TableName) -> Result<u64, StoreFault> {
+    let mut store = Store::load(alloc, disk, &Limits::standard())?;
+    let _lawful = name.bytes();
+    let entry = Entry::Create {
+        name,
+        families: Families::new(alloc),
+    };
+    if store.present().floor() > 5 || !store.schema().allows(&entry) {
+        return Ok(0);
+    }
+    store.commit(alloc, disk, entry, 5)?;
+    Ok(store.last_sequence())
+}
+
+#[test]
+fn a_table_is_there_again(rt: HostRuntime) -> Result<(), Fail> {
+    let mut disk = MemoryDisk::new(rt.alloc());
+    assert!(rt; !has_table(rt.alloc(), &mut disk)?);
+    assert_eq!(rt;
+        create_table(rt.alloc(), &mut disk, table_name(rt.alloc())?)?,
+        1
+    );
+    assert!(rt; has_table(rt.alloc(), &mut disk)?);
+    Ok(())
+}
+
+fn calls_to_load(alloc: Global) -> Result<u64, Fail> {
+    let mut disk = MemoryDisk::new(alloc);
+    let _store = load(alloc, &mut disk)?;
+    Ok(disk.moment())
+}
+
+// Whether a crash leaves the table where this call of a commit fails, and all behind it.
+fn table_after(alloc: Global, call: u64, choice: u8) -> Result<bool, Fail> {
+    let mut disk = MemoryDisk::new(alloc);
+    disk.stop_at(calls_to_load(alloc)?.saturating_add(call));
+    let _result = create_table(alloc, &mut disk, table_name(alloc)?);
+    let image = disk.image(choice)?;
+    let mut left = MemoryDisk::from_image(alloc, image);
+    has_table(alloc, &mut left)
+}
+
+#[test]
+fn a_table_is_absent_or_whole(rt: HostRuntime) -> Result<(), Fail> {
+    for choice in 0..4 {
+        assert!(rt; !table_after(rt.alloc(), 1, choice)?);
+        assert!(rt; !table_after(rt.alloc(), 2, choice)?);
+        let _either = table_after(rt.alloc(), 3, choice)?;
+        let _either_still = table_after(rt.alloc(), 4, choice)?;
+        assert!(rt; table_after(rt.alloc(), 5, choice)?);
+    }
+    Ok(())
+}
