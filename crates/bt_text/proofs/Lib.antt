@@ -1,4 +1,12 @@
 pub mod Digits
+pub mod Fractions
+pub mod Dates
+pub mod Fields
+pub mod PrintedFields
+pub mod PrintedFractions
+pub mod PrintedMoments
+pub mod PrintedDurations
 pub mod PrintedBytes
 pub mod PrintedNumbers
 pub mod StandardForms
+pub mod Base64Groups

@@ -1,5 +1,6 @@
 -- JSON fields of the type bytes: base64 of RFC 4648, as the protobuf documentation, "ProtoJSON Format", reads it.
 use Rattle.std.specs.Prelude.{◌≡◌, ℕ, ◌-◌, ◌%◌, ◌==◌, ◌&&◌, ◌||◌, Bool, true, not, List, ◌++◌, length, map, replicate, if◌then◌else◌, Option, Some, option_and_then}
+use Rattle.std.specs.Char.{is_ascii_alphanumeric}
 use Rattle.std.specs.List.{list_any}
 use Rattle.base64.specs.Engines.{standard}
 use Rattle.base64.specs.GeneralPurpose.{IsBytes, decoded_of, encode_of}
@@ -13,6 +14,10 @@ is_url_safe_digit c = (c == 45) || (c == 95)
 -- `+` for `-`, `/` for `_`, and any other byte as it is
 abbrev pub standard_digit : ℕ → ℕ
 standard_digit c = if c == 45 then 43 else (if c == 95 then 47 else c)
+
+-- a digit of either alphabet
+abbrev pub is_digit : ℕ → Bool
+is_digit c = is_ascii_alphanumeric c || (c == 43) || (c == 47) || (c == 45) || (c == 95)
 
 -- `=`
 abbrev pub is_padding : ℕ → Bool

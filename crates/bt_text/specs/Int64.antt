@@ -1,20 +1,19 @@
 -- JSON fields of the type int64, as the protobuf documentation, "ProtoJSON Format", reads them.
-use Rattle.std.specs.Prelude.{◌≡◌, ℕ, ◌&&◌, ◌^◌, Bool, nat_lt, nat_le, List, length, drop, if◌then◌else◌, Option, Some, None, option_and_then, ℤ, pos, neg_ℤ, FitsSigned}
+use Rattle.std.specs.Prelude.{◌≡◌, ℕ, ◌^◌, Bool, nat_lt, nat_le, List, drop, if◌then◌else◌, Option, Some, None, option_and_then, ℤ, pos, neg_ℤ, FitsSigned}
 use Rattle.std.specs.Int.{w64}
 use Rattle.std.specs.Fmt.{signed_decimal}
-use Rattle.std.specs.Char.{is_ascii_digit}
-use Rattle.std.specs.List.{list_all}
-use Rattle.std.specs.Str.Parse.{digits_value, starts_with_minus}
+use Rattle.std.specs.Str.Parse.{starts_with_minus}
 use Rattle.serde_json.specs.Data.{Data, string}
 use Rattle.serde_json.specs.Find.{as_str, as_number, as_i64}
+use Rattle.bt_text.specs.Numerals.{is_numeral, numeral}
 
 -- 1 to 19 decimal digits
 abbrev pub is_digits : List ℕ → Bool
-is_digits ds = nat_lt 0 (length ds) && nat_le (length ds) 19 && list_all is_ascii_digit ds
+is_digits ds = is_numeral 19 ds
 
 -- the number that they write
 abbrev pub digits_of : List ℕ → Option ℕ
-digits_of ds = if is_digits ds then Some (digits_value 10 ds) else None
+digits_of ds = numeral 19 ds
 
 -- the number itself, where it fits a signed word of 64 bits
 abbrev pub positive : ℕ → Option ℤ

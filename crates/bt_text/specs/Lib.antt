@@ -1,3 +1,14 @@
+pub mod Numerals
 pub mod Int64
+pub mod Int32
+pub mod Fraction
+pub mod Duration
+pub mod Names
+pub mod Enum
+pub mod Members
+pub mod Calendar
+pub mod Timestamp
+pub mod Offsets
+pub mod Printed
 pub mod Bytes
 pub mod Refusal

@@ -1,5 +1,5 @@
 //! Bytes, which JSON has as base64.
-ghost use Rattle.std.specs.Prelude.{◌≡◌, ◌++◌, map, replicate, IfOk};
+ghost use Rattle.std.specs.Prelude.{◌≡◌, ◌++◌, map, replicate, IfOk, is_some};
 ghost use Rattle.std.specs.List.{list_any};
 ghost use Rattle.base64.specs.Engines.{standard};
 ghost use Rattle.base64.specs.GeneralPurpose.{decoded_of, encode_of};
@@ -8,6 +8,7 @@ ghost use Rattle.serde_json.specs.View.{view};
 ghost use Rattle.bt_text.specs.Bytes.{bytes_in, bytes_of_text, is_standard_text, is_url_safe_digit, missing_padding, standard_digit};
 ghost use Rattle.bt_text.specs.Refusal.{Gives};
 
+use crate::base64_form::is_base64;
 use crate::refusal::FieldRefusal;
 use base64::DecodeAllocError;
 use base64::engine::general_purpose::STANDARD;
@@ -29,6 +30,16 @@ pub fn read_bytes(alloc: Global, value: &Value, name: &str) -> Result<Blob, Fiel
         Ok(Some(bytes)) => Ok(bytes),
         Ok(None) => Err(FieldRefusal::bad_field(alloc, name)),
         Err(OutOfMemory) => Err(FieldRefusal::OutOfMemory),
+    }
+}
+
+/// Whether `read_bytes` gives bytes. Takes no memory.
+pub fn is_bytes(value: &Value) -> bool
+    ensures { result ≡ is_some (bytes_in (view value.now)) }
+{
+    match value.as_str() {
+        Some(text) => is_base64(text.as_bytes()),
+        None => false,
     }
 }
 
@@ -68,7 +79,7 @@ fn standard_form(alloc: Global, text: &[u8]) -> Result<Vec<u8>, OutOfMemory>
     Ok(form)
 }
 
-fn missing_padding(text: &[u8]) -> usize
+pub(crate) fn missing_padding(text: &[u8]) -> usize
     ensures { result ≡ missing_padding text.now }
 {
     if text.contains(&b'=') {
@@ -78,7 +89,7 @@ fn missing_padding(text: &[u8]) -> usize
     }
 }
 
-fn standard_digit(c: u8) -> u8
+pub(crate) fn standard_digit(c: u8) -> u8
     ensures { result ≡ standard_digit c }
 {
     match c {

@@ -1,14 +1,13 @@
 //! Numbers of 64 bits with a sign, which JSON has as text.
-ghost use Rattle.std.specs.Prelude.{◌≡◌, ◌≤◌, IfOk, IsTrue, length};
+ghost use Rattle.std.specs.Prelude.{◌≡◌, IfOk, is_some};
 ghost use Rattle.std.specs.Fmt.{signed_decimal};
-ghost use Rattle.std.specs.Char.{is_ascii_digit};
-ghost use Rattle.std.specs.List.{list_all};
-ghost use Rattle.std.specs.Str.Parse.{digits_value};
 ghost use Rattle.serde_json.specs.Data.{string};
 ghost use Rattle.serde_json.specs.View.{view};
-ghost use Rattle.bt_text.specs.Int64.{int64_in, int64_text, is_digits, digits_of, positive, negative};
+ghost use Rattle.bt_text.specs.Int32.{as_int32, int32_in};
+ghost use Rattle.bt_text.specs.Int64.{int64_in, int64_text, is_digits, positive, negative};
 ghost use Rattle.bt_text.specs.Refusal.{Gives};
 
+use crate::numerals::{is_numeral, numeral};
 use crate::refusal::FieldRefusal;
 use bt_base::OutOfMemory;
 use serde_json::Value;
@@ -20,9 +19,50 @@ use std::alloc::Global;
 pub fn read_int64(alloc: Global, value: &Value, name: &str) -> Result<i64, FieldRefusal>
     ensures { Gives name.now (int64_in (view value.now)) result }
 {
-    match number_in(value) {
-        Some(number) => Ok(number),
-        None => Err(FieldRefusal::bad_field(alloc, name)),
+    let Some(number) = number_in(value) else {
+        return Err(FieldRefusal::bad_field(alloc, name));
+    };
+    Ok(number)
+}
+
+/// The number of a field of type int32: what `read_int64` reads, in the range of 32 bits with a sign
+/// (protobuf documentation, "ProtoJSON Format", int32). `BadField` carries `name`.
+pub fn read_int32(alloc: Global, value: &Value, name: &str) -> Result<i32, FieldRefusal>
+    ensures { Gives name.now (int32_in (view value.now)) result }
+{
+    let Some(number) = short_number_in(value) else {
+        return Err(FieldRefusal::bad_field(alloc, name));
+    };
+    Ok(number)
+}
+
+/// Whether `read_int64` gives a number. Takes no memory.
+pub fn is_int64(value: &Value) -> bool
+    ensures { result ≡ is_some (int64_in (view value.now)) }
+{
+    number_in(value).is_some()
+}
+
+/// Whether `read_int32` gives a number. Takes no memory.
+pub fn is_int32(value: &Value) -> bool
+    ensures { result ≡ is_some (int32_in (view value.now)) }
+{
+    short_number_in(value).is_some()
+}
+
+pub(crate) fn short_number_in(value: &Value) -> Option<i32>
+    ensures { result ≡ int32_in (view value.now) }
+{
+    to_int32(number_in(value)?)
+}
+
+fn to_int32(number: i64) -> Option<i32>
+    ensures { result ≡ as_int32 number }
+{
+    if number < -(1 << 31) || number >= 1 << 31 {
+        None
+    } else {
+        Some(number as i32)
     }
 }
 
@@ -40,8 +80,8 @@ fn int64_of(text: &str) -> Option<i64>
 {
     let bytes = text.as_bytes();
     match bytes {
-        [b'-', digits @ ..] => to_negative(number_of(digits)?),
-        _ => to_positive(number_of(bytes)?),
+        [b'-', digits @ ..] => to_negative(numeral(19, digits)?),
+        _ => to_positive(numeral(19, bytes)?),
     }
 }
 
@@ -67,46 +107,12 @@ fn to_negative(number: u64) -> Option<i64>
     }
 }
 
-fn number_of(digits: &[u8]) -> Option<u64>
-    ensures { result ≡ digits_of digits.now }
-{
-    if are_short_digits(digits) {
-        Some(value_of(digits))
-    } else {
-        None
-    }
-}
-
 /// Whether the text is 1 to 19 decimal digits, as a string of a field of type int64 is behind its
 /// sign. Whether they fit 64 bits is not tested.
 pub fn are_int64_digits(text: &str) -> bool
     ensures { result ≡ is_digits text.now }
 {
-    are_short_digits(text.as_bytes())
-}
-
-fn are_short_digits(bytes: &[u8]) -> bool
-    ensures { result ≡ is_digits bytes.now }
-{
-    !bytes.is_empty() && bytes.len() <= 19 && are_digits(bytes)
-}
-
-fn are_digits(bytes: &[u8]) -> bool
-    ensures { result ≡ list_all is_ascii_digit bytes.now }
-{
-    bytes.iter().all(|b| b.is_ascii_digit())
-}
-
-fn value_of(digits: &[u8]) -> u64
-    requires short { length digits.now ≤ 19 }
-    requires digits { IsTrue (list_all is_ascii_digit digits.now) }
-    ensures { result ≡ digits_value 10 digits.now }
-{
-    let mut n = 0;
-    for b in digits {
-        n = n * 10 + (*b - b'0') as u64;
-    }
-    n
+    is_numeral(19, text.as_bytes())
 }
 
 /// The number as a string in decimal, as a field of type int64 is written.
