@@ -1,0 +1,40 @@
+//! Mutations as they were read, before any rule about them is checked.
+use bt_base::{Blob, ListOf, OutOfMemory, Plain};
+use std::alloc::Global;
+
+/// A mutation as it was read (`google.bigtable.v2.Mutation`). What the request leaves out is zero or
+/// empty.
+#[derive(Debug, Drop)]
+pub enum AskedMutation {
+    /// `at` is in microseconds.
+    SetCell {
+        family: Blob,
+        qualifier: Blob,
+        at: i64,
+        value: Blob,
+    },
+    /// None of its kinds is set.
+    Missing,
+}
+
+/// The mutations of one row, in order.
+pub type AskedMutationList = ListOf<AskedMutation>;
+
+impl Plain for AskedMutation {
+    fn copy(&self, alloc: Global) -> Result<AskedMutation, OutOfMemory> {
+        match self {
+            AskedMutation::SetCell {
+                family,
+                qualifier,
+                at,
+                value,
+            } => Ok(AskedMutation::SetCell {
+                family: family.copy(alloc)?,
+                qualifier: qualifier.copy(alloc)?,
+                at: *at,
+                value: value.copy(alloc)?,
+            }),
+            AskedMutation::Missing => Ok(AskedMutation::Missing),
+        }
+    }
+}

@@ -1,0 +1,7 @@
+pub mod Methods
+pub mod Envelopes
+pub mod Tables
+pub mod Values
+pub mod Readers
+pub mod Refusals
+pub mod Requests

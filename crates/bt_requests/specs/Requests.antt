@@ -1,0 +1,42 @@
+-- What a request asks for, or why it is refused.
+use Rattle.std.specs.Prelude.{ℕ, Option, Some, None, Result, Ok, Err}
+use Rattle.serde_json.specs.Data.{Data}
+use Rattle.bt_requests.specs.Readers.{create_table, read_rows, mutate_row}
+use Rattle.bt_requests.specs.Refusals.{members_refusal}
+use Rattle.bt_requests.specs.declared.kinds.TheConstants as kinds
+use Rattle.bt_requests.specs.declared.method.Method.{Method}
+use Rattle.bt_requests.specs.declared.method.Method.TheVariants as method
+use Rattle.bt_requests.specs.declared.refusal.RequestRefusal.{RequestRefusal}
+use Rattle.bt_requests.specs.declared.refusal.RequestRefusal.TheVariants.{NotBuilt, BadName}
+use Rattle.bt_requests.specs.declared.request.Request.{Request}
+
+-- the message of a method that is built
+abbrev pub message_of : Method → Option ℕ
+message_of method.CreateTable = Some kinds.CREATE_TABLE
+message_of method.ReadRows = Some kinds.READ_ROWS
+message_of method.MutateRow = Some kinds.MUTATE_ROW
+message_of _ = None
+
+-- what its request asks for; none where a name in it is not lawful
+abbrev pub asked_of : Method → Data → Option Request
+asked_of method.CreateTable d = create_table d
+asked_of method.ReadRows d = read_rows d
+asked_of method.MutateRow d = mutate_row d
+asked_of _ d = None
+
+-- the refusal, or else what follows
+abbrev pub unless_refused : Option RequestRefusal → Result Request RequestRefusal → Result Request RequestRefusal
+unless_refused None answer = answer
+unless_refused (Some e) answer = Err e
+
+abbrev pub or_bad_name : Option Request → Result Request RequestRefusal
+or_bad_name None = Err BadName
+or_bad_name (Some r) = Ok r
+
+abbrev pub if_built : Option ℕ → (ℕ → Result Request RequestRefusal) → Result Request RequestRefusal
+if_built None answer = Err NotBuilt
+if_built (Some m) answer = answer m
+
+-- the order of refusals: not built, unsupported, bad field, bad name
+abbrev pub request_in : Method → Data → Result Request RequestRefusal
+request_in method d = if_built (message_of method) (λ m. unless_refused (members_refusal m d) (or_bad_name (asked_of method d)))

@@ -1,0 +1,54 @@
+//! The request CreateTable.
+ghost use Rattle.std.specs.Prelude.{◌≡◌, IfOk};
+ghost use Rattle.serde_json.specs.View.{view, members_view};
+ghost use Rattle.bt_requests.specs.Readers.{Ascend, IsInOrder, create_table, families_in, families_of};
+
+use crate::names;
+use crate::request::{AskedFamily, AskedFamilyList, Request};
+use crate::values::{members_at, text_at, value_at};
+use bt_base::{Blob, OutOfMemory};
+use bt_types::TableName;
+use serde_json::{Map, Value};
+use std::alloc::Global;
+
+pub(crate) fn create_table(alloc: Global, value: &Value) -> Result<Option<Request>, OutOfMemory>
+    ensures exact { IfOk result (λ r. r ≡ create_table (view value.now)) }
+    ensures order { IfOk result IsInOrder }
+{
+    let parent = text_at(value, names::PARENT);
+    let id = text_at(value, names::TABLE_ID);
+    let Some(name) = TableName::in_instance(alloc, parent, id)? else {
+        return Ok(None);
+    };
+    let families = families_in(alloc, value)?;
+    Ok(Some(Request::CreateTable { name, families }))
+}
+
+#[tactic(auto, using(crate::proofs::FamilyOrder::none_ascend))]
+fn families_in(alloc: Global, value: &Value) -> Result<AskedFamilyList, OutOfMemory>
+    ensures exact { IfOk result (λ list. list ≡ families_in (view value.now)) }
+    ensures order { IfOk result Ascend }
+{
+    let Some(table) = value_at(value, names::TABLE) else {
+        return Ok(AskedFamilyList::new(alloc));
+    };
+    let Some(entries) = members_at(table, names::COLUMN_FAMILIES) else {
+        return Ok(AskedFamilyList::new(alloc));
+    };
+    families_of(alloc, entries)
+}
+
+fn families_of(alloc: Global, entries: &Map<String, Value>) -> Result<AskedFamilyList, OutOfMemory>
+    ensures exact { IfOk result (λ list. list ≡ families_of (members_view entries.now.entries)) }
+    ensures order { IfOk result Ascend }
+{
+    let mut families = AskedFamilyList::new(alloc);
+    for (key, value) in entries.iter() {
+        if value.is_null() {
+            continue;
+        }
+        let name = Blob::new(alloc, key.as_str().as_bytes())?;
+        families.push(AskedFamily { name })?;
+    }
+    Ok(families)
+}

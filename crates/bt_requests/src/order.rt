@@ -1,0 +1,60 @@
+//! From a method and a value to a request, or to the refusal that comes first.
+ghost use Rattle.std.specs.Prelude.{◌≡◌, IfOk};
+ghost use Rattle.serde_json.specs.View.{view};
+ghost use Rattle.bt_requests.specs.Readers.{HasOrder, IsInOrder};
+ghost use Rattle.bt_requests.specs.Refusals.{Answers};
+ghost use Rattle.bt_requests.specs.Requests.{request_in, message_of, asked_of};
+
+use crate::create_table::create_table;
+use crate::kinds;
+use crate::method::Method;
+use crate::mutations::mutate_row;
+use crate::refusal::{RequestRefusal, members_refusal};
+use crate::request::Request;
+use crate::rows::read_rows;
+use bt_base::OutOfMemory;
+use serde_json::Value;
+use std::alloc::Global;
+
+/// What a request asks for. `value` is its object, as `read_envelope` gives it. Each refusal comes
+/// exactly where none of those before it does: `NotBuilt`, `Unsupported`, `BadField`, `BadName`.
+pub fn read_request(alloc: Global, method: Method, value: &Value) -> Result<Request, RequestRefusal>
+    ensures exact { Answers (request_in method (view value.now)) result }
+    ensures order { IfOk result HasOrder }
+{
+    let Some(message) = message_of(method) else {
+        return Err(RequestRefusal::NotBuilt);
+    };
+    if let Some(refusal) = members_refusal(alloc, message, value)? {
+        return Err(refusal);
+    }
+    match asked_of(alloc, method, value)? {
+        Some(request) => Ok(request),
+        None => Err(RequestRefusal::BadName),
+    }
+}
+
+// The message of a method that is built.
+fn message_of(method: Method) -> Option<u8>
+    ensures { result ≡ message_of method }
+{
+    match method {
+        Method::CreateTable => Some(kinds::CREATE_TABLE),
+        Method::ReadRows => Some(kinds::READ_ROWS),
+        Method::MutateRow => Some(kinds::MUTATE_ROW),
+        _ => None,
+    }
+}
+
+// The request of a method that is built, or `None` where a name in it is not lawful.
+fn asked_of(alloc: Global, method: Method, value: &Value) -> Result<Option<Request>, OutOfMemory>
+    ensures exact { IfOk result (λ r. r ≡ asked_of method (view value.now)) }
+    ensures order { IfOk result IsInOrder }
+{
+    match method {
+        Method::CreateTable => create_table(alloc, value),
+        Method::ReadRows => read_rows(alloc, value),
+        Method::MutateRow => mutate_row(alloc, value),
+        _ => Ok(None),
+    }
+}

@@ -1,0 +1,70 @@
+//! Why a request is refused.
+ghost use Rattle.std.specs.Prelude.{◌≡◌, option_map, IfOk};
+ghost use Rattle.serde_json.specs.View.{view};
+ghost use Rattle.bt_requests.specs.Refusals.{first_fault, members_refusal};
+
+use crate::table::Requests;
+use bt_base::{Blob, OutOfMemory};
+use bt_walk::{Many, Pass, Shape, fault};
+use serde_json::Value;
+use std::alloc::Global;
+
+/// Why a request is refused. A name is that of the first member at fault in preorder.
+#[derive(Debug, Drop)]
+pub enum RequestRefusal {
+    /// No request of this method is served yet.
+    NotBuilt,
+    /// A member that is not served, with a value that does not count as absent.
+    Unsupported { name: Blob },
+    /// A value outside its type, an unknown member, a member by both its names, or a second member
+    /// of one oneof.
+    BadField { name: Blob },
+    /// The name of the table or of its instance is not lawful.
+    BadName,
+    OutOfMemory,
+}
+
+impl From<OutOfMemory> for RequestRefusal {
+    ghost use Rattle.std.specs.Prelude.{◌≡◌};
+    ghost use Rattle.bt_requests.specs.declared.refusal.RequestRefusal.TheVariants as refusal;
+
+    ghost from_gives = { λ _ e. e ≡ refusal.OutOfMemory };
+
+    fn from(_: OutOfMemory) -> RequestRefusal {
+        RequestRefusal::OutOfMemory
+    }
+}
+
+/// The refusal of a message for its members: the first that is not supported, or else the first bad
+/// field.
+pub(crate) fn members_refusal(
+    alloc: Global,
+    message: u8,
+    value: &Value,
+) -> Result<Option<RequestRefusal>, OutOfMemory>
+    ensures { IfOk result (λ r. r ≡ members_refusal message (view value.now)) }
+{
+    if let Some(name) = first_fault(Pass::ForUnsupported, message, value) {
+        let name = Blob::new(alloc, name.as_bytes())?;
+        return Ok(Some(RequestRefusal::Unsupported { name }));
+    }
+    if let Some(name) = first_fault(Pass::ForBad, message, value) {
+        let name = Blob::new(alloc, name.as_bytes())?;
+        return Ok(Some(RequestRefusal::BadField { name }));
+    }
+    Ok(None)
+}
+
+#[tactic(auto, unfolding(crate::specs::Refusals::first_fault))]
+fn first_fault<'v>(pass: Pass, message: u8, value: &'v Value) -> Option<&'v str>
+    ensures { option_map (λ n. n.now) result ≡ first_fault pass message (view value.now) }
+{
+    fault(
+        &Requests,
+        pass,
+        Many::One,
+        Shape::Of(message),
+        "request",
+        value,
+    )
+}

@@ -1,0 +1,153 @@
+//! The members of each message, in byte order of their JSON names. A member that is not built yet is
+//! not supported.
+use crate::{kinds, names};
+use bt_walk::{Many, Member, Schema, Shape, Support};
+
+/// The messages that requests are made of.
+pub(crate) struct Requests;
+
+impl Schema for Requests {
+    ghost use Rattle.bt_requests.specs.Tables.{requests};
+
+    ghost table = { λ _. requests };
+
+    fn members(&self, message: u8) -> &'static [Member] {
+        match message {
+            kinds::CREATE_TABLE => &CREATE_TABLE,
+            kinds::TABLE => &TABLE,
+            kinds::COLUMN_FAMILY => &COLUMN_FAMILY,
+            kinds::SPLIT => &SPLIT,
+            kinds::READ_ROWS => &READ_ROWS,
+            kinds::MUTATE_ROW => &MUTATE_ROW,
+            kinds::MUTATION => &MUTATION,
+            kinds::SET_CELL => &SET_CELL,
+            _ => &[],
+        }
+    }
+
+    fn names(&self, list: u8) -> &'static str {
+        match list {
+            kinds::GRANULARITIES => "TIMESTAMP_GRANULARITY_UNSPECIFIED,MILLIS",
+            kinds::STATS_VIEWS => {
+                "REQUEST_STATS_VIEW_UNSPECIFIED,REQUEST_STATS_NONE,REQUEST_STATS_FULL"
+            }
+            kinds::SUPPORTED_STATS_VIEWS => "REQUEST_STATS_VIEW_UNSPECIFIED,REQUEST_STATS_NONE",
+            _ => "",
+        }
+    }
+}
+
+macro_rules! member {
+    ($name:ident, $many:expr, $shape:expr, $choice:literal, $support:expr) => {
+        Member {
+            name: names::$name,
+            many: $many,
+            shape: $shape,
+            choice: $choice,
+            support: $support,
+        }
+    };
+}
+
+// A member of one value.
+macro_rules! one {
+    ($name:ident, $shape:expr) => {
+        member!($name, Many::One, $shape, 0, Support::Full)
+    };
+}
+
+macro_rules! list {
+    ($name:ident, $shape:expr) => {
+        member!($name, Many::List, $shape, 0, Support::Full)
+    };
+}
+
+macro_rules! map {
+    ($name:ident, $shape:expr) => {
+        member!($name, Many::Map, $shape, 0, Support::Full)
+    };
+}
+
+// A member of a oneof, by the oneof's number.
+macro_rules! choice {
+    ($choice:literal, $name:ident, $shape:expr) => {
+        member!($name, Many::One, $shape, $choice, Support::Full)
+    };
+}
+
+// A member that is not supported, and the number of its oneof, or 0.
+macro_rules! unsupported {
+    ($choice:literal, $name:ident) => {
+        member!($name, Many::One, Shape::Anything, $choice, Support::UnlessZero)
+    };
+}
+
+static CREATE_TABLE: [Member; 4] = [
+    list!(INITIAL_SPLITS, Shape::Of(kinds::SPLIT)),
+    one!(PARENT, Shape::Text),
+    one!(TABLE, Shape::Of(kinds::TABLE)),
+    one!(TABLE_ID, Shape::Text),
+];
+
+static TABLE: [Member; 9] = [
+    unsupported!(0, AUTOMATED_BACKUP_POLICY),
+    unsupported!(0, CHANGE_STREAM_CONFIG),
+    unsupported!(0, CLUSTER_STATES),
+    map!(COLUMN_FAMILIES, Shape::Of(kinds::COLUMN_FAMILY)),
+    unsupported!(0, DELETION_PROTECTION),
+    one!(GRANULARITY, Shape::Enum(kinds::GRANULARITIES)),
+    one!(NAME, Shape::Text),
+    unsupported!(0, RESTORE_INFO),
+    unsupported!(0, ROW_KEY_SCHEMA),
+];
+
+static COLUMN_FAMILY: [Member; 3] = [
+    unsupported!(0, GC_RULE),
+    unsupported!(0, STATS),
+    unsupported!(0, VALUE_TYPE),
+];
+
+static SPLIT: [Member; 1] = [one!(KEY, Shape::Bytes)];
+
+static READ_ROWS: [Member; 9] = [
+    one!(APP_PROFILE_ID, Shape::Text),
+    unsupported!(0, AUTHORIZED_VIEW_NAME),
+    unsupported!(0, FILTER),
+    unsupported!(0, MATERIALIZED_VIEW_NAME),
+    member!(
+        REQUEST_STATS_VIEW,
+        Many::One,
+        Shape::Enum(kinds::STATS_VIEWS),
+        0,
+        Support::Only(kinds::SUPPORTED_STATS_VIEWS)
+    ),
+    unsupported!(0, REVERSED),
+    unsupported!(0, ROWS),
+    unsupported!(0, ROWS_LIMIT),
+    one!(TABLE_NAME, Shape::Text),
+];
+
+static MUTATE_ROW: [Member; 6] = [
+    one!(APP_PROFILE_ID, Shape::Text),
+    unsupported!(0, AUTHORIZED_VIEW_NAME),
+    unsupported!(0, IDEMPOTENCY),
+    list!(MUTATIONS, Shape::Of(kinds::MUTATION)),
+    one!(ROW_KEY, Shape::Bytes),
+    one!(TABLE_NAME, Shape::Text),
+];
+
+static MUTATION: [Member; 6] = [
+    unsupported!(1, ADD_TO_CELL),
+    unsupported!(1, DELETE_FROM_COLUMN),
+    unsupported!(1, DELETE_FROM_FAMILY),
+    unsupported!(1, DELETE_FROM_ROW),
+    unsupported!(1, MERGE_TO_CELL),
+    choice!(1, SET_CELL, Shape::Of(kinds::SET_CELL)),
+];
+
+static SET_CELL: [Member; 4] = [
+    one!(COLUMN_QUALIFIER, Shape::Bytes),
+    one!(FAMILY_NAME, Shape::Text),
+    one!(TIMESTAMP_MICROS, Shape::Int64),
+    one!(VALUE, Shape::Bytes),
+];

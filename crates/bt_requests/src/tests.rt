@@ -1,0 +1,71 @@
+//! Each request once, as it is read.
+use super::*;
+use bt_mutation::AskedMutation;
+use std::alloc::Global;
+use std::test::Fail;
+
+fn asked(alloc: Global, line: &str) -> Result<Request, Fail> {
+    let (method, value) = read_envelope(alloc, line.as_bytes())?;
+    Ok(read_request(alloc, method, &value)?)
+}
+
+#[test]
+fn a_table_is_created(rt: HostRuntime) -> Result<(), Fail> {
+    let line =
+        r#"{"method":"CreateTable","request":{"parent":"projects/p/instances/i","table_id":"t","table":{"columnFamilies":{"g":{},"n":null,"f":{}}}}}"#;
+    let Request::CreateTable { name, families } = asked(rt.alloc(), line)? else {
+        return Err(Fail::from("CreateTable"));
+    };
+    assert_eq!(rt; name.text(), "projects/p/instances/i/tables/t");
+    let [first, second] = families.items() else {
+        return Err(Fail::from("two families"));
+    };
+    assert_eq!(rt; first.name.bytes(), b"f".as_slice());
+    assert_eq!(rt; second.name.bytes(), b"g".as_slice());
+    Ok(())
+}
+
+#[test]
+fn rows_are_read(rt: HostRuntime) -> Result<(), Fail> {
+    let line = r#"{"method":"ReadRows","request":{"tableName":"projects/p/instances/i/tables/t"}}"#;
+    let Request::ReadRows { name } = asked(rt.alloc(), line)? else {
+        return Err(Fail::from("ReadRows"));
+    };
+    assert_eq!(rt; name.text(), "projects/p/instances/i/tables/t");
+    Ok(())
+}
+
+#[test]
+fn a_row_is_mutated(rt: HostRuntime) -> Result<(), Fail> {
+    let line =
+        r#"{"method":"MutateRow","request":{"tableName":"projects/p/instances/i/tables/t","rowKey":"cg","mutations":[{"setCell":{"familyName":"f","column_qualifier":"cQ==","timestampMicros":"-1","value":"dg=="}},{}]}}"#;
+    let Request::MutateRow { key, mutations, .. } = asked(rt.alloc(), line)? else {
+        return Err(Fail::from("MutateRow"));
+    };
+    assert_eq!(rt; key.bytes(), b"r".as_slice());
+    let [set, AskedMutation::Missing] = mutations.items() else {
+        return Err(Fail::from("two mutations"));
+    };
+    let AskedMutation::SetCell {
+        family,
+        qualifier,
+        at,
+        value,
+    } = set
+    else {
+        return Err(Fail::from("a cell"));
+    };
+    assert_eq!(rt; family.bytes(), b"f".as_slice());
+    assert_eq!(rt; qualifier.bytes(), b"q".as_slice());
+    assert_eq!(rt; *at, -1);
+    assert_eq!(rt; value.bytes(), b"v".as_slice());
+    Ok(())
+}
+
+#[test]
+fn a_line_without_a_request_has_an_empty_one(rt: HostRuntime) -> Result<(), Fail> {
+    let (method, value) = read_envelope(rt.alloc(), br#"{"method":"GetTable"}"#)?;
+    assert_eq!(rt; method, Method::GetTable);
+    assert!(rt; value.is_object());
+    Ok(())
+}

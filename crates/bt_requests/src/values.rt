@@ -1,0 +1,103 @@
+//! The members of a value that has no bad field: an absent one is zero or empty.
+ghost use Rattle.std.specs.Prelude.{◌≡◌, option_map, IfOk};
+ghost use Rattle.serde_json.specs.View.{view, items_view, members_view};
+ghost use Rattle.bt_requests.specs.Values.{present, value_of, text_of, bytes_of, int64_of, items_of, items_in, members_of};
+
+use bt_base::{Blob, OutOfMemory};
+use bt_text::{FieldRefusal, read_bytes, read_int64};
+use bt_walk::Name;
+use serde_json::{Map, Value};
+use std::alloc::Global;
+
+/// The value at either name of a member, where null is absent.
+pub(crate) fn value_at<'v>(value: &'v Value, name: Name) -> Option<&'v Value>
+    ensures { option_map (λ v. view v.now) result
+        ≡ value_of name.0.now name.1.now (view value.now) }
+{
+    match present(value.get(name.0)) {
+        Some(found) => Some(found),
+        None => present(value.get(name.1)),
+    }
+}
+
+fn present<'v>(found: Option<&'v Value>) -> Option<&'v Value>
+    ensures { option_map (λ v. view v.now) result
+        ≡ present (option_map (λ v. view v.now) found.entry) }
+{
+    match found {
+        Some(value) if value.is_null() => None,
+        found => found,
+    }
+}
+
+pub(crate) fn text_at<'v>(value: &'v Value, name: Name) -> &'v str
+    ensures { result.now ≡ text_of name.0.now name.1.now (view value.now) }
+{
+    match value_at(value, name) {
+        Some(found) => found.as_str().unwrap_or(""),
+        None => "",
+    }
+}
+
+/// The bytes of a text.
+pub(crate) fn text_bytes_at(alloc: Global, value: &Value, name: Name) -> Result<Blob, OutOfMemory>
+    ensures { IfOk result (λ b. b ≡ text_of name.0.now name.1.now (view value.now)) }
+{
+    Blob::new(alloc, text_at(value, name).as_bytes())
+}
+
+pub(crate) fn bytes_at(alloc: Global, value: &Value, name: Name) -> Result<Blob, OutOfMemory>
+    ensures { IfOk result (λ b. b ≡ bytes_of name.0.now name.1.now (view value.now)) }
+{
+    let Some(found) = value_at(value, name) else {
+        return Blob::new(alloc, &[]);
+    };
+    match read_bytes(alloc, found, "") {
+        Ok(bytes) => Ok(bytes),
+        Err(FieldRefusal::BadField { .. }) => Blob::new(alloc, &[]),
+        Err(FieldRefusal::OutOfMemory) => Err(OutOfMemory),
+    }
+}
+
+pub(crate) fn int64_at(alloc: Global, value: &Value, name: Name) -> Result<i64, OutOfMemory>
+    ensures { IfOk result (λ n. n ≡ int64_of name.0.now name.1.now (view value.now)) }
+{
+    let Some(found) = value_at(value, name) else {
+        return Ok(0);
+    };
+    match read_int64(alloc, found, "") {
+        Ok(number) => Ok(number),
+        Err(FieldRefusal::BadField { .. }) => Ok(0),
+        Err(FieldRefusal::OutOfMemory) => Err(OutOfMemory),
+    }
+}
+
+/// The items of an array.
+pub(crate) fn items_at<'v>(value: &'v Value, name: Name) -> &'v [Value]
+    ensures { items_view result.now ≡ items_of name.0.now name.1.now (view value.now) }
+{
+    match value_at(value, name) {
+        Some(found) => items_in(found),
+        None => &[],
+    }
+}
+
+fn items_in<'v>(value: &'v Value) -> &'v [Value]
+    ensures { items_view result.now ≡ items_in (view value.now) }
+{
+    match value.as_array() {
+        Some(items) => items,
+        None => &[],
+    }
+}
+
+/// The entries of a map.
+pub(crate) fn members_at<'v>(value: &'v Value, name: Name) -> Option<&'v Map<String, Value>>
+    ensures { option_map (λ m. members_view m.now.entries) result
+        ≡ members_of name.0.now name.1.now (view value.now) }
+{
+    match value_at(value, name) {
+        Some(found) => found.as_object(),
+        None => None,
+    }
+}

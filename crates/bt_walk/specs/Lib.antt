@@ -1,0 +1,5 @@
+pub mod Shapes
+pub mod Values
+pub mod Members
+pub mod Faults
+pub mod Walk

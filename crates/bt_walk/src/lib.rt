@@ -1,0 +1,15 @@
+//! The shapes of JSON messages as data, and one walk that finds the first fault of a message.
+#![tactic(auto)]
+
+mod found;
+mod leaf;
+mod member;
+mod shape;
+mod walk;
+
+pub use found::Pass;
+pub use shape::{Many, Member, Name, Schema, Shape, Support};
+pub use walk::fault;
+
+#[cfg(test)]
+mod tests;

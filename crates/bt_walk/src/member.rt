@@ -1,0 +1,101 @@
+//! Whether a member is itself what the walk looks for.
+ghost use Rattle.std.specs.Prelude.{◌≡◌, map, option_map};
+ghost use Rattle.serde_json.specs.View.{view};
+ghost use Rattle.bt_walk.specs.Shapes.{seen};
+ghost use Rattle.bt_walk.specs.Members.{is_absent, is_unsupported, is_there, is_plain, is_renamed, is_set, has_choice, is_too_many, is_wrong};
+
+use crate::found::Pass;
+use crate::leaf::{fits, is_zero};
+use crate::shape::{Member, Schema, Shape, Support};
+use serde_json::Value;
+
+pub(crate) fn is_absent(support: Support, value: &Value) -> bool
+    ensures { result ≡ is_absent support (view value.now) }
+{
+    match support {
+        Support::UnlessZero => value.is_null() || is_zero(value),
+        Support::Full | Support::UnlessNull | Support::Only(_) => value.is_null(),
+    }
+}
+
+fn is_unsupported<S: Schema>(schema: &S, member: &Member, value: &Value) -> bool
+    ensures { result
+        ≡ is_unsupported (S.Schema.table schema.now).names (seen member.now) (view value.now) }
+{
+    match member.support {
+        Support::Full => false,
+        Support::UnlessZero | Support::UnlessNull => true,
+        Support::Only(list) => {
+            fits(schema, member.shape, value) && !fits(schema, Shape::Enum(list), value)
+        }
+    }
+}
+
+fn is_there(support: Support, value: Option<&Value>) -> bool
+    ensures { result ≡ is_there support (option_map (λ v. view v.now) value.entry) }
+{
+    match value {
+        Some(value) => !is_absent(support, value),
+        None => false,
+    }
+}
+
+// By its JSON name.
+fn is_plain(whole: &Value, member: &Member) -> bool
+    ensures { result ≡ is_plain (view whole.now) (seen member.now) }
+{
+    is_there(member.support, whole.get(member.name.0))
+}
+
+// By its original name, where that is another.
+fn is_renamed(whole: &Value, member: &Member) -> bool
+    ensures { result ≡ is_renamed (view whole.now) (seen member.now) }
+{
+    member.name.1 != member.name.0 && is_there(member.support, whole.get(member.name.1))
+}
+
+fn is_set(whole: &Value, member: &Member) -> bool
+    ensures { result ≡ is_set (view whole.now) (seen member.now) }
+{
+    is_plain(whole, member) || is_renamed(whole, member)
+}
+
+// Whether another of that oneof is set whose name is less.
+fn has_choice(whole: &Value, choice: u8, name: &str, members: &[Member]) -> bool
+    ensures { result ≡ has_choice (view whole.now) choice name.now (map seen members.now) }
+{
+    match members {
+        [] => false,
+        [member, rest @ ..] => {
+            member.choice == choice && member.name.0 < name && is_set(whole, member)
+                || has_choice(whole, choice, name, rest)
+        }
+    }
+}
+
+// By both its names, or as a later one of its oneof.
+fn is_too_many(whole: &Value, members: &[Member], member: &Member) -> bool
+    ensures { result ≡ is_too_many (view whole.now) (map seen members.now) (seen member.now) }
+{
+    is_plain(whole, member) && is_renamed(whole, member)
+        || member.choice != 0 && has_choice(whole, member.choice, member.name.0, members)
+}
+
+/// Whether a member that is present is itself what the pass looks for.
+pub(crate) fn is_wrong<S: Schema>(
+    schema: &S,
+    pass: Pass,
+    whole: &Value,
+    members: &[Member],
+    member: &Member,
+    value: &Value,
+) -> bool
+    ensures { result
+        ≡ is_wrong (S.Schema.table schema.now).names pass (view whole.now) (map seen members.now)
+        (seen member.now) (view value.now) }
+{
+    match pass {
+        Pass::ForUnsupported => is_unsupported(schema, member, value),
+        Pass::ForBad => is_too_many(whole, members, member),
+    }
+}
