@@ -4,18 +4,14 @@ use Rattle.std.specs.List.{flat_map}
 use Rattle.base64.specs.Engines.{standard}
 use Rattle.base64.specs.GeneralPurpose.{encode_of}
 use Rattle.bt_types.specs.declared.cell.Cell.{Cell}
-use Rattle.serde_json.specs.Data.{Data, boolean, string, array, object, Members, no_members, put}
+use Rattle.serde_json.specs.Data.{Data, boolean, string, array, object, Members, no_members}
 use Rattle.serde_json.specs.View.{items_of}
 use Rattle.serde_json.specs.Written.{compact_text}
-use Rattle.bt_messages.specs.Lines.{line_of, object_with, response_data}
+use Rattle.bt_messages.specs.Lines.{line_of, object_with, response_data, with_if, is_nonempty}
 
 -- bytes as a string of standard base64
 unfoldable pub base64 : List ℕ → List ℕ
 base64 b = encode_of standard b
-
--- the members, with d at k where it is asked for
-abbrev pub with_if : Bool → List ℕ → Data → Members → Members
-with_if asked k d ms = if asked then put k d ms else ms
 
 -- no cell stands before in the row
 abbrev pub is_first : Option Cell → Bool
@@ -31,10 +27,6 @@ is_new_family (Some p) c = not (bytes_eq p.family c.family)
 abbrev pub is_new_column : Option Cell → Cell → Bool
 is_new_column None c = true
 is_new_column (Some p) c = if bytes_eq p.family c.family then not (bytes_eq p.qualifier c.qualifier) else true
-
--- there are some bytes
-abbrev pub is_nonempty : List ℕ → Bool
-is_nonempty b = not (length b == 0)
 
 -- the members, with the timestamp of the cell unless it is 0
 abbrev pub with_time : Cell → Members → Members

@@ -3,3 +3,4 @@ pub mod Requests
 pub mod Lines
 pub mod Refusals
 pub mod Chunks
+pub mod Responses

@@ -1,5 +1,5 @@
 -- Lines of replies: a JSON object without spaces, and a line feed.
-use Rattle.std.specs.Prelude.{ℕ, List, [], ◌∷◌, ◌++◌, codes}
+use Rattle.std.specs.Prelude.{ℕ, ◌==◌, Bool, not, List, [], ◌∷◌, ◌++◌, length, codes, if◌then◌else◌}
 use Rattle.serde_json.specs.Data.{Data, number, unsigned, string, object, Members, no_members, member, put}
 use Rattle.serde_json.specs.Written.{compact_text}
 
@@ -15,9 +15,25 @@ object_with k d = object (member k d no_members)
 abbrev pub response_data : Data → Data
 response_data d = object_with (codes "response") d
 
--- the last line of a request that was refused
+-- the members, with d at k where it is asked for
+abbrev pub with_if : Bool → List ℕ → Data → Members → Members
+with_if asked k d ms = if asked then put k d ms else ms
+
+-- there are some items
+abbrev pub is_nonempty : {A : Type 0} → List A → Bool
+is_nonempty xs = not (length xs == 0)
+
+-- the members, with the text at k unless it is empty
+abbrev pub with_text : List ℕ → List ℕ → Members → Members
+with_text k text ms = with_if (is_nonempty text) k (string text) ms
+
+-- the members, with the number at k unless it is 0
+abbrev pub with_number : List ℕ → ℕ → Members → Members
+with_number k n ms = with_if (not (n == 0)) k (number (unsigned n)) ms
+
+-- the last line of a request: the code (google.rpc.Code) and the message
 abbrev pub status_data : ℕ → List ℕ → Data
-status_data code text = object_with (codes "status") (object (put (codes "code") (number (unsigned code)) (put (codes "message") (string text) no_members)))
+status_data code text = object_with (codes "status") (object (with_number (codes "code") code (with_text (codes "message") text no_members)))
 
 -- the last line of a request that was served
 abbrev pub ok_data : Data

@@ -1,11 +1,12 @@
 //! The chunk of a cell.
-ghost use Rattle.std.specs.Prelude.{◌≡◌, true, false, IfOk, OnOk, codes, option_map, None};
-ghost use Rattle.serde_json.specs.Data.{boolean, string};
+ghost use Rattle.std.specs.Prelude.{◌≡◌, IfOk, OnOk, option_map};
 ghost use Rattle.serde_json.specs.View.{view, members_view};
-ghost use Rattle.bt_messages.specs.Chunks.{base64, with_if, with_time, chunk_data, is_first, is_nonempty, is_new_family, is_new_column};
+ghost use Rattle.bt_messages.specs.Chunks.{with_time, chunk_data, is_first, is_new_family, is_new_column};
+ghost use Rattle.bt_messages.specs.Lines.{is_nonempty};
 
+use crate::members::{put_bytes, put_text, put_true};
 use bt_base::OutOfMemory;
-use bt_text::{print_bytes, print_int64};
+use bt_text::print_int64;
 use bt_types::{Cell, RowKey};
 use serde_json::{Map, Value, put};
 use std::alloc::Global;
@@ -31,7 +32,7 @@ pub(crate) fn chunk_of(
     put_bytes(alloc, &mut chunk, column, "qualifier", qualifier)?;
     let family = is_new_family(before, cell);
     put_text(alloc, &mut chunk, family, "familyName", cell.family.text())?;
-    put_last(alloc, &mut chunk, last)?;
+    put_true(alloc, &mut chunk, last, "commitRow")?;
     Ok(Value::Object(chunk))
 }
 
@@ -69,51 +70,6 @@ fn is_new_column(before: Option<&Cell>, cell: &Cell) -> bool
         }
         None => true,
     }
-}
-
-fn put_last(alloc: Global, chunk: &mut Map<String, Value>, last: bool) -> Result<(), OutOfMemory>
-    ensures { OnOk result (members_view chunk.new.entries
-        ≡ with_if last (codes "commitRow") (boolean true) (members_view chunk.old.entries)) }
-{
-    if last {
-        put(chunk, alloc, "commitRow", Value::Bool(true))?;
-    }
-    Ok(())
-}
-
-fn put_text(
-    alloc: Global,
-    chunk: &mut Map<String, Value>,
-    asked: bool,
-    name: &str,
-    text: &str,
-) -> Result<(), OutOfMemory>
-    ensures { OnOk result (members_view chunk.new.entries
-        ≡ with_if asked name.now (string text.now) (members_view chunk.old.entries)) }
-{
-    if asked {
-        let text = Value::try_from_str(alloc, text)?;
-        put(chunk, alloc, name, text)?;
-    }
-    Ok(())
-}
-
-#[tactic(auto, unfolding(crate::specs::Chunks::base64))]
-fn put_bytes(
-    alloc: Global,
-    chunk: &mut Map<String, Value>,
-    asked: bool,
-    name: &str,
-    bytes: &[u8],
-) -> Result<(), OutOfMemory>
-    ensures { OnOk result (members_view chunk.new.entries
-        ≡ with_if asked name.now (string (base64 bytes.now)) (members_view chunk.old.entries)) }
-{
-    if asked {
-        let text = print_bytes(alloc, bytes)?;
-        put(chunk, alloc, name, text)?;
-    }
-    Ok(())
 }
 
 fn put_time(alloc: Global, chunk: &mut Map<String, Value>, cell: &Cell) -> Result<(), OutOfMemory>
