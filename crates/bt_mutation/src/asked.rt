@@ -6,7 +6,8 @@ use std::alloc::Global;
 /// empty.
 #[derive(Debug, Drop)]
 pub enum AskedMutation {
-    /// `at` is in microseconds.
+    /// `at` is in microseconds since 1970, and -1 asks for the server's time
+    /// (`google.bigtable.v2.Mutation.SetCell.timestamp_micros`).
     SetCell {
         family: Blob,
         qualifier: Blob,
@@ -16,6 +17,9 @@ pub enum AskedMutation {
     /// None of its kinds is set.
     Missing,
 }
+
+/// The timestamp that asks for the server's time.
+pub(crate) const SERVER_TIME: i64 = -1;
 
 /// The mutations of one row, in order.
 pub type AskedMutationList = ListOf<AskedMutation>;
