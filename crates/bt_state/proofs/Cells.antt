@@ -1,5 +1,5 @@
 -- Cells in order: where one more goes, and that they stay in order.
-use Rattle.std.proofs.Common.{◌≡◌, ◌<◌, ◌≤◌, ℕ, suc, zero, List, [], ◌∷◌, None, Result, Ok, Err, length, get_or, refl, sym, ap, ◌∙◌, arith, subst, OnOk, OnErr}
+use Rattle.std.proofs.Common.{◌≡◌, ◌<◌, ◌≤◌, ℕ, suc, zero, List, [], ◌∷◌, None, Result, Ok, Err, length, get_or, refl, sym, ap, ◌∙◌, arith}
 use Rattle.std.specs.Prelude.{slice_set, All}
 use Rattle.std.specs.List.{insert, AllWithin, HoldsAt}
 use Rattle.std.specs.List.Sorted.{IsNonDecreasingBy, IsBinarySearchResult, IsSearchInRange}
@@ -12,6 +12,8 @@ use Rattle.std.proofs.lemmas.List.Elements.{All-cons, All-head, All-tail, All-we
 use Rattle.bt_types.specs.declared.cell.Cell.{Cell}
 use Rattle.bt_types.specs.Cells.{cell_cmp, AreOrdered, IsRow}
 use Rattle.bt_types.specs.Mutations.{set_cell}
+use Rattle.bt_entry.specs.Grammar.{most_of_value}
+use Rattle.bt_state.specs.Contents.{AreShort}
 use Rattle.bt_state.specs.Places.{IsPlace}
 
 pub cell_total : IsTotalOrder cell_cmp
@@ -89,7 +91,6 @@ ordered_set c (d ∷ ds) o = ordered_by c d ds (cell_cmp c d) refl o (ordered_se
 pub row_set : (c : Cell) (ds : List Cell) → c.label ≡ None → IsRow ds → IsRow (set_cell c ds)
 row_set c ds plain r = record { ordered = ordered_set c ds r.ordered; unlabelled = all_set (λ x. x.label ≡ None) c ds plain r.unlabelled }
 
--- it stays one whether the cell was put or memory was short
-pub row_after : {T E : Type 0} (r : Result T E) (c : Cell) (ds new : List Cell) → c.label ≡ None → IsRow ds → OnOk r (new ≡ set_cell c ds) → OnErr r (new ≡ ds) → IsRow new
-row_after (Ok x) c ds new plain row put kept = subst IsRow (sym put) (row_set c ds plain row)
-row_after (Err x) c ds new plain row put kept = subst IsRow (sym kept) row
+-- and its values stay short
+pub short_set : (c : Cell) (ds : List Cell) → length c.value ≤ most_of_value → AreShort ds → AreShort (set_cell c ds)
+short_set c ds short all = all_set (λ x. length x.value ≤ most_of_value) c ds short all

@@ -1,5 +1,6 @@
 -- Rows by key: what is written over a row that is there is what is put at its key.
-use Rattle.std.proofs.Common.{◌≡◌, ◌<◌, ◌≤◌, ◌⊎◌, inl, inr, ℕ, List, [], ◌∷◌, Option, Some, None, Result, Ok, Err, OnOk, OnErr, length, refl, sym, ap, ◌∙◌, arith, subst}
+use Rattle.std.specs.Prelude.{All}
+use Rattle.std.proofs.Common.{◌≡◌, ◌<◌, ◌≤◌, ◌⊎◌, inl, inr, ℕ, List, [], ◌∷◌, Some, None, Result, Ok, Err, OnOk, OnErr, length, refl, sym, ap, ◌∙◌, arith, subst}
 use Rattle.std.specs.Ordering.{nat_cmp, match_ordering}
 use Rattle.std.specs.declared.cmp.Ordering.{Ordering}
 use Rattle.std.specs.declared.cmp.Ordering.TheVariants.{Less, Equal, Greater}
@@ -18,8 +19,9 @@ use Rattle.bt_types.specs.declared.mutation.Mutation.{Mutation}
 use Rattle.bt_types.specs.declared.mutation.Mutation.TheVariants.{SetCell, DeleteColumn, DeleteFamily, DeleteRow}
 use Rattle.bt_types.specs.Cells.{cell_cmp, plain}
 use Rattle.bt_types.specs.Mutations.{applied, set_cell}
-use Rattle.bt_state.specs.Contents.{Contents, HaveCells, key_is, with_row, put_row}
-use Rattle.bt_state.specs.Places.{AreSets}
+use Rattle.bt_state.specs.Contents.{Contents, HaveCells, AreShort, HaveShortValues, key_is, with_row, put_row}
+use Rattle.bt_state.specs.Places.{AreSets, HaveShort}
+use Rattle.bt_state.proofs.Cells.{short_set}
 
 module _ {K X : Type 0} {R : K → K → Ordering} (o : IsTotalOrder R) where
   by_side : (k : K) (v w : X) (e : K × X) (es : List (K × X)) (r : Ordering) → R k e.0 ≡ r → IsStrictlySortedBy R (keys_of (e ∷ es)) → lookup (is_at (R k)) (e ∷ es) ≡ Some w
@@ -36,26 +38,6 @@ module _ {K X : Type 0} {R : K → K → Ordering} (o : IsTotalOrder R) where
   set_is_insert k v w [] sorted found = cc
   set_is_insert k v w (e ∷ es) sorted found = by_side k v w e es (R k e.0) refl sorted found (set_is_insert k v w es (sorted_tail R e.0 (keys_of es) sorted))
 
--- a cell without a label is the one that its mutation puts
-is_plain : (c : Cell) → c.label ≡ None → plain c.family c.qualifier c.at c.value ≡ c
-is_plain c none = ap (λ (l : Option (List ℕ)). record c { label = l }) (sym none)
-
-put_by : (k : List ℕ) (c d : Cell) (ds : List Cell) (rows : Contents) (r : Ordering)
-    → with_row k (match_ordering r (c ∷ d ∷ ds) (c ∷ ds) (d ∷ set_cell c ds)) rows ≡ insert_entry (slice_cmp nat_cmp) rows k (match_ordering r (c ∷ d ∷ ds) (c ∷ ds) (d ∷ set_cell c ds))
-put_by k c d ds rows Less = refl
-put_by k c d ds rows Equal = refl
-put_by k c d ds rows Greater = refl
-
--- a row with a cell in it is there
-with_cell : (k : List ℕ) (c : Cell) (cs : List Cell) (rows : Contents) → with_row k (set_cell c cs) rows ≡ insert_entry (slice_cmp nat_cmp) rows k (set_cell c cs)
-with_cell k c [] rows = refl
-with_cell k c (d ∷ ds) rows = put_by k c d ds rows (cell_cmp c d)
-
--- a cell put into a row that is there
-pub put_over : (k : List ℕ) (c : Cell) (cs : List Cell) (rows : Contents) → c.label ≡ None → IsStrictlySortedBy (slice_cmp nat_cmp) (keys_of rows) → lookup (key_is k) rows ≡ Some cs
-    → set_value (key_is k) rows (set_cell c cs) ≡ put_row k (SetCell c.family c.qualifier c.at c.value ∷ []) rows
-put_over k c cs rows none sorted found = rw (is_plain c none, found) (set_is_insert nat_list_cmp_total k (set_cell c cs) cs rows sorted found ∙ sym (with_cell k c cs rows))
-
 filled_by : (c d : Cell) (ds : List Cell) (r : Ordering) → 0 < length (match_ordering r (c ∷ d ∷ ds) (c ∷ ds) (d ∷ set_cell c ds))
 filled_by c d ds Less = omega arith
 filled_by c d ds Equal = omega arith
@@ -65,21 +47,6 @@ filled_by c d ds Greater = omega arith
 filled_set : (c : Cell) (ds : List Cell) → 0 < length (set_cell c ds)
 filled_set c [] = omega arith
 filled_set c (d ∷ ds) = filled_by c d ds (cell_cmp c d)
-
-filled_after : {T E : Type 0} (r : Result T E) (c : Cell) (ds new : List Cell) → OnOk r (new ≡ set_cell c ds) → OnErr r (new ≡ ds) → 0 < length ds → 0 < length new
-filled_after (Ok x) c ds new put kept filled = rw put (filled_set c ds)
-filled_after (Err x) c ds new put kept filled = rw kept filled
-
--- a row that is there has a cell whether one was put or memory was short
-pub filled_over : {T E : Type 0} (r : Result T E) (k : List ℕ) (c : Cell) (cs new : List Cell) (rows : Contents) → HaveCells rows → IsAmong (values_of rows) cs → OnOk r (new ≡ set_cell c cs) → OnErr r (new ≡ cs)
-    → HaveCells (set_value (key_is k) rows new)
-filled_over r k c cs new rows filled among put kept =
-    let was : 0 < length cs = subst (λ (x : List Cell). 0 < length x) (sym among.1.1) (filled among.0 cs among.1.0) in
-    All-values-set_value (key_is k) (λ (x : List Cell). 0 < length x) rows new filled (filled_after r c cs new put kept was)
-
--- a new row has the cell
-pub filled_new : (k : List ℕ) (c : Cell) (new : List Cell) (rows : Contents) → HaveCells rows → new ≡ set_cell c [] → HaveCells (insert_entry (slice_cmp nat_cmp) rows k new)
-filled_new k c new rows filled put = All-values-insert_entry (slice_cmp nat_cmp) k new (λ (x : List Cell). 0 < length x) rows filled (rw put (filled_set c []))
 
 -- a row with a cell is put where its key is
 pub with_filled : (k : List ℕ) (cs : List Cell) (rows : Contents) → 0 < length cs → with_row k cs rows ≡ insert_entry (slice_cmp nat_cmp) rows k cs
@@ -101,20 +68,40 @@ pub change_over : (k : List ℕ) (ms : List Mutation) (cs : List Cell) (rows : C
 change_over k ms cs rows sets some sorted found =
     rw found (set_is_insert nat_list_cmp_total k (applied ms cs) cs rows sorted found ∙ sym (with_filled k (applied ms cs) rows (filled_applied ms cs sets (inr some))))
 
-changed_filled : {T E : Type 0} (r : Result T E) (ms : List Mutation) (cs new : List Cell) → AreSets ms → 1 ≤ length ms → OnOk r (new ≡ applied ms cs) → OnErr r (new ≡ cs) → 0 < length cs → 0 < length new
-changed_filled (Ok x) ms cs new sets some put kept filled = rw put (filled_applied ms cs sets (inr some))
-changed_filled (Err x) ms cs new sets some put kept filled = rw kept filled
+short_applied : (ms : List Mutation) (row : List Cell) → AreSets ms → HaveShort ms → AreShort row → AreShort (applied ms row)
+short_applied [] row sets short all = all
+short_applied (SetCell family qualifier at value ∷ ms) row sets short all =
+    short_applied ms (set_cell (plain family qualifier at value) row) sets.1 short.1 (short_set (plain family qualifier at value) row short.0 all)
+short_applied (DeleteColumn family qualifier start end ∷ ms) row sets short all = absurd sets.0
+short_applied (DeleteFamily family ∷ ms) row sets short all = absurd sets.0
+short_applied (DeleteRow ∷ ms) row sets short all = absurd sets.0
 
--- a row that is there has a cell whether it was changed or memory was short
-pub filled_change : {T E : Type 0} (r : Result T E) (k : List ℕ) (ms : List Mutation) (cs new : List Cell) (rows : Contents) → AreSets ms → 1 ≤ length ms → HaveCells rows → IsAmong (values_of rows) cs → OnOk r (new ≡ applied ms cs) → OnErr r (new ≡ cs)
-    → HaveCells (set_value (key_is k) rows new)
-filled_change r k ms cs new rows sets some filled among put kept =
-    let was : 0 < length cs = subst (λ (x : List Cell). 0 < length x) (sym among.1.1) (filled among.0 cs among.1.0) in
-    All-values-set_value (key_is k) (λ (x : List Cell). 0 < length x) rows new filled (changed_filled r ms cs new sets some put kept was)
+module _ (P : List Cell → Type 0) where
+  holds_after : {T E : Type 0} (r : Result T E) (ms : List Mutation) (cs new : List Cell) → (P cs → P (applied ms cs)) → OnOk r (new ≡ applied ms cs) → OnErr r (new ≡ cs) → P cs → P new
+  holds_after (Ok x) ms cs new goes_on put kept was = subst P (sym put) (goes_on was)
+  holds_after (Err x) ms cs new goes_on put kept was = subst P (sym kept) was
 
--- a new row has a cell
-pub filled_change_new : (k : List ℕ) (ms : List Mutation) (new : List Cell) (rows : Contents) → AreSets ms → 1 ≤ length ms → HaveCells rows → new ≡ applied ms [] → HaveCells (insert_entry (slice_cmp nat_cmp) rows k new)
-filled_change_new k ms new rows sets some filled put = All-values-insert_entry (slice_cmp nat_cmp) k new (λ (x : List Cell). 0 < length x) rows filled (rw put (filled_applied ms [] sets (inr some)))
+  -- what holds of each row holds still, whether the one at a key was changed or memory was short
+  pub all_change : {T E : Type 0} (r : Result T E) (k : List ℕ) (ms : List Mutation) (cs new : List Cell) (rows : Contents) → All P (values_of rows) → IsAmong (values_of rows) cs → (P cs → P (applied ms cs)) → OnOk r (new ≡ applied ms cs) → OnErr r (new ≡ cs)
+      → All P (values_of (set_value (key_is k) rows new))
+  all_change r k ms cs new rows all among goes_on put kept =
+      let was : P cs = subst P (sym among.1.1) (all among.0 cs among.1.0) in
+      All-values-set_value (key_is k) P rows new all (holds_after r ms cs new goes_on put kept was)
+
+  -- and with a new row
+  pub all_new : (k : List ℕ) (ms : List Mutation) (new : List Cell) (rows : Contents) → All P (values_of rows) → new ≡ applied ms [] → P (applied ms []) → All P (values_of (insert_entry (slice_cmp nat_cmp) rows k new))
+  all_new k ms new rows all put goes_on = All-values-insert_entry (slice_cmp nat_cmp) k new P rows all (subst P (sym put) goes_on)
+
+module _ (k : List ℕ) (ms : List Mutation) (new : List Cell) (rows : Contents) (sets : AreSets ms) (short : HaveShort ms) (some : 1 ≤ length ms) (kept : HaveCells rows × HaveShortValues rows) where
+  -- each row has a cell and short values, whether one was changed or memory was short
+  pub kept_change : {T E : Type 0} (r : Result T E) (cs : List Cell) → IsAmong (values_of rows) cs → OnOk r (new ≡ applied ms cs) → OnErr r (new ≡ cs) → HaveCells (set_value (key_is k) rows new) × HaveShortValues (set_value (key_is k) rows new)
+  kept_change r cs among put same =
+      (all_change (λ (x : List Cell). 0 < length x) r k ms cs new rows kept.0 among (λ was. filled_applied ms cs sets (inl was)) put same, all_change AreShort r k ms cs new rows kept.1 among (λ was. short_applied ms cs sets short was) put same)
+
+  -- so does a new row
+  pub kept_new : new ≡ applied ms [] → HaveCells (insert_entry (slice_cmp nat_cmp) rows k new) × HaveShortValues (insert_entry (slice_cmp nat_cmp) rows k new)
+  kept_new put =
+      (all_new (λ (x : List Cell). 0 < length x) k ms new rows kept.0 put (filled_applied ms [] sets (inr some)), all_new AreShort k ms new rows kept.1 put (short_applied ms [] sets short (λ i e lt. absurd (omega (arith, lt)))))
 
 -- a row that was not there
 pub change_new : (k : List ℕ) (ms : List Mutation) (rows : Contents) → AreSets ms → 1 ≤ length ms → lookup (key_is k) rows ≡ None → insert_entry (slice_cmp nat_cmp) rows k (applied ms []) ≡ put_row k ms rows

@@ -1,7 +1,7 @@
 -- Tables found by their incarnations.
 use Rattle.std.proofs.Common.{◌≡◌, ℕ, Bool, true, false, ◌==◌, List, [], ◌∷◌, Option, Some, None, cond, refl, sym, ap, ◌∙◌, subst, if◌then◌else◌, eqb-true, eq-eqb, arith}
+use Rattle.std.specs.Prelude.{IfSome, option_map}
 use Rattle.std.specs.List.{AllByRecursion}
-use Rattle.std.specs.List.Sorted.{IsStrictlySortedBy}
 use Rattle.std.specs.Ordering.{nat_cmp, match_ordering, ordering_reverse, is_eq}
 use Rattle.std.specs.declared.cmp.Ordering.{Ordering}
 use Rattle.std.specs.declared.cmp.Ordering.TheVariants.{Less, Equal, Greater}
@@ -10,9 +10,11 @@ use Rattle.std.specs.Map.{lookup, keys_of}
 use Rattle.std.specs.BTreeMap.{insert_entry, is_at}
 use Rattle.std.proofs.lemmas.Cmp.{nat_list_cmp_total}
 use Rattle.std.proofs.lemmas.Map.Keys.{sorted_head, sorted_tail}
+use Rattle.std.proofs.lemmas.Map.Text.{is_eq-slice_cmp}
+use Rattle.std.proofs.lemmas.Slice.Eq.{bytes_eq-Decides}
 use Rattle.bt_entry.specs.declared.table_info.TableInfo.{TableInfo}
 use Rattle.bt_state.specs.Contents.{key_is}
-use Rattle.bt_state.specs.States.{Schema, table_at}
+use Rattle.bt_state.specs.State.{Schema, table_at}
 use Rattle.bt_state.specs.Indexed.{IsIndexed, AreIndexed}
 
 -- equal in the order of names
@@ -143,3 +145,27 @@ module _ (names : List (ℕ × List ℕ)) (name : List ℕ) (info : TableInfo) (
   pub all_insert : (ts : Schema) → lookup (key_is name) ts ≡ None → AllByRecursion (IsIndexed names) ts → AllByRecursion (IsIndexed names) (insert_entry (slice_cmp nat_cmp) ts name info)
   all_insert [] absent all = (is, tt)
   all_insert (t ∷ ts) absent all = absent_by t ts (slice_cmp nat_cmp name t.0) absent all (λ gone. all_insert ts gone all.1)
+
+module _ (names : List (ℕ × List ℕ)) (name : List ℕ) (info : TableInfo) where
+  same_name : (key : List ℕ) → key_is name key ≡ true → name ≡ key
+  same_name key is = (bytes_eq-Decides name key).0 (sym (is_eq-slice_cmp name key) ∙ is)
+
+  own_by : (t : List ℕ × TableInfo) (ts : Schema) (b : Bool) → key_is name t.0 ≡ b → cond b (Some t.1) (lookup (key_is name) ts) ≡ Some info → IsIndexed names t → (lookup (key_is name) ts ≡ Some info → lookup (is_at (nat_cmp info.incarnation)) names ≡ Some name) → lookup (is_at (nat_cmp info.incarnation)) names ≡ Some name
+  own_by t ts true e found is rest =
+      let same : t.1 ≡ info = cc found in
+      ap (λ (i : TableInfo). lookup (is_at (nat_cmp i.incarnation)) names) (sym same) ∙ is ∙ ap (λ (n : List ℕ). Some n) (sym (same_name t.0 e))
+  own_by t ts false e found is rest = rest found
+
+  -- the name of a table stands at its incarnation
+  own_name : (ts : Schema) → lookup (key_is name) ts ≡ Some info → AllByRecursion (IsIndexed names) ts → lookup (is_at (nat_cmp info.incarnation)) names ≡ Some name
+  own_name [] found all = cc found
+  own_name (t ∷ ts) found all = own_by t ts (key_is name t.0) refl found all.0 (λ f. own_name ts f all.1)
+
+  -- no other table has the incarnation
+  pub own_table : (ts : Schema) → lookup (key_is name) ts ≡ Some info → AreIndexed names ts → table_at info.incarnation ts ≡ Some info
+  own_table ts found all = found_there names info.incarnation name info ts (own_name ts found all.1) found all (eq-eqb info.incarnation info.incarnation refl)
+
+-- the same of a table that was looked up
+pub own_if : {T : Type 0} (view : T → TableInfo) (names : List (ℕ × List ℕ)) (name : List ℕ) (ts : Schema) (r : Option T) → option_map view r ≡ lookup (key_is name) ts → AreIndexed names ts → IfSome r (λ t. table_at (view t).incarnation ts ≡ Some (view t))
+own_if view names name ts None found all = tt
+own_if view names name ts (Some t) found all = own_table names name (view t) ts (sym found) all

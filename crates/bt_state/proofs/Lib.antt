@@ -1,5 +1,6 @@
 pub mod Cells
 pub mod Entries
-pub mod Incarnations
 pub mod Indexes
 pub mod Made
+pub mod Within
+pub mod Steps

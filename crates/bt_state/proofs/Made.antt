@@ -14,8 +14,8 @@ use Rattle.bt_entry.specs.declared.entry.Entry.{Entry}
 use Rattle.bt_entry.specs.declared.entry.Entry.TheVariants.{Row}
 use Rattle.bt_entry.specs.declared.table_info.TableInfo.{TableInfo}
 use Rattle.bt_entry.specs.Grammar.{IsSpellableEntry, IsSpellableMutation}
-use Rattle.bt_state.specs.Places.{AreSets}
-use Rattle.bt_state.specs.States.{Schema, AreMade, new_table, table_at}
+use Rattle.bt_state.specs.Places.{AreSets, HaveShort}
+use Rattle.bt_state.specs.State.{Schema, AreMade, new_table, table_at}
 
 next_by : (last : ℕ) (t : List ℕ × TableInfo) (ts : Schema) (b : Bool) → (t.1.incarnation == last + 1) ≡ b → t.1.incarnation ≤ last → table_at (last + 1) ts ≡ None → (if b then Some t.1 else table_at (last + 1) ts) ≡ None
 next_by last t ts true e le rest = let same : t.1.incarnation ≡ last + 1 = eqb-true t.1.incarnation (last + 1) e in absurd (omega (arith, same, le))
@@ -46,3 +46,14 @@ sets_of (DeleteRow ∷ ms) all = absurd all.0
 -- an entry of a row sets cells
 pub row_sets : (entry : Entry) (incarnation : ℕ) (key : List ℕ) (ms : List Mutation) → IsSpellableEntry entry → entry ≡ Row incarnation key ms → AreSets ms
 row_sets entry incarnation key ms spellable is = sets_of ms (subst IsSpellableEntry is spellable).2.2
+
+short_of : (ms : List Mutation) → AllByRecursion IsSpellableMutation ms → HaveShort ms
+short_of [] all = tt
+short_of (SetCell family qualifier at value ∷ ms) all = (all.0.3, short_of ms all.1)
+short_of (DeleteColumn family qualifier start end ∷ ms) all = absurd all.0
+short_of (DeleteFamily family ∷ ms) all = absurd all.0
+short_of (DeleteRow ∷ ms) all = absurd all.0
+
+-- and their values are short
+pub row_short : (entry : Entry) (incarnation : ℕ) (key : List ℕ) (ms : List Mutation) → IsSpellableEntry entry → entry ≡ Row incarnation key ms → HaveShort ms
+row_short entry incarnation key ms spellable is = short_of ms (subst IsSpellableEntry is spellable).2.2

@@ -1,5 +1,5 @@
 -- The rows of a table: a finite map from row keys to rows, by its entries in the order of keys.
-use Rattle.std.specs.Prelude.{ℕ, ◌<◌, Bool, List, [], ◌∷◌, length, unwrap_or, All}
+use Rattle.std.specs.Prelude.{ℕ, ◌<◌, ◌≤◌, Bool, List, [], ◌∷◌, length, unwrap_or, All}
 use Rattle.std.specs.Ordering.{nat_cmp}
 use Rattle.std.specs.Cmp.Lexicographic.{slice_cmp}
 use Rattle.std.specs.Map.{lookup, remove_entry, values_of}
@@ -7,6 +7,7 @@ use Rattle.std.specs.BTreeMap.{insert_entry, is_at}
 use Rattle.bt_types.specs.declared.cell.Cell.{Cell}
 use Rattle.bt_types.specs.declared.mutation.Mutation.{Mutation}
 use Rattle.bt_types.specs.Mutations.{applied}
+use Rattle.bt_entry.specs.Grammar.{most_of_value}
 
 abbrev pub Contents : Type 0
 Contents = List (List ℕ × List Cell)
@@ -14,6 +15,14 @@ Contents = List (List ℕ × List Cell)
 -- no row is without cells
 abbrev pub HaveCells : Contents → Type 0
 HaveCells rows = All (λ cs. 0 < length cs) (values_of rows)
+
+-- no cell's value is too long
+abbrev pub AreShort : List Cell → Type 0
+AreShort cs = All (λ c. length c.value ≤ most_of_value) cs
+
+-- nor is one in any row
+abbrev pub HaveShortValues : Contents → Type 0
+HaveShortValues rows = All AreShort (values_of rows)
 
 -- a key is this one, by its bytes
 abbrev pub key_is : List ℕ → List ℕ → Bool

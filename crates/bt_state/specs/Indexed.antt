@@ -7,7 +7,7 @@ use Rattle.std.specs.Cmp.Lexicographic.{slice_cmp}
 use Rattle.std.specs.Map.{lookup, keys_of}
 use Rattle.std.specs.BTreeMap.{is_at}
 use Rattle.bt_entry.specs.declared.table_info.TableInfo.{TableInfo}
-use Rattle.bt_state.specs.States.{Schema}
+use Rattle.bt_state.specs.State.{Schema}
 
 -- the table's name stands at its incarnation
 abbrev pub IsIndexed : List (ℕ × List ℕ) → List ℕ × TableInfo → Type 0

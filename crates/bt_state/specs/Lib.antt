@@ -1,6 +1,5 @@
 pub mod Contents
 pub mod State
-pub mod Incarnations
 pub mod Places
-pub mod States
 pub mod Indexed
+pub mod Ranges

@@ -1,18 +1,20 @@
 //! The rows of a table.
-ghost use Rattle.std.specs.Prelude.{◌≡◌, ◌≤◌, [], ◌∷◌, length, None, OnOk, OnErr};
-ghost use Rattle.bt_types.specs.declared.mutation.Mutation.TheVariants.{SetCell};
-ghost use Rattle.bt_state.specs.Contents.{HaveCells, put_row};
-ghost use Rattle.bt_state.specs.Places.{AreSets};
+ghost use Rattle.std.specs.Prelude.{◌≡◌, ◌≤◌, [], length, OnOk, OnErr};
+ghost use Rattle.bt_state.specs.Contents.{HaveCells, HaveShortValues, put_row};
+ghost use Rattle.bt_state.specs.Places.{AreSets, HaveShort};
+ghost use Rattle.bt_state.specs.Ranges.{rows_within, unread};
 
+use crate::contents_rows::ContentsRows;
+use crate::ranges::rows_within;
 use crate::row::Row;
 use bt_base::OutOfMemory;
-use bt_types::{Cell, MutationList, RowKey};
+use bt_types::{MutationList, RowKey, RowRange};
 use std::alloc::Global;
 use std::collections::BTreeMap;
 use std::marker::Model;
 
-/// The rows of a table by their keys. A contract sees the list of keys and cells in the order of
-/// keys.
+/// The rows of a table by their keys: each has a cell, and a value has at most 4,194,304 bytes. A
+/// contract sees the list of keys and cells in the order of keys.
 #[derive(Drop)]
 pub struct Contents {
     rows: BTreeMap<RowKey, Row>,
@@ -24,11 +26,11 @@ impl Model for Contents {
 
     ghost Value = { List (List ℕ × List Cell) };
 
-    ghost use Rattle.bt_state.specs.Contents.{HaveCells};
+    ghost use Rattle.bt_state.specs.Contents.{HaveCells, HaveShortValues};
 
     ghost view = { λ c. c.rows.entries };
 
-    ghost invariant = { λ c. HaveCells c.rows.entries };
+    ghost invariant = { λ c. HaveCells c.rows.entries × HaveShortValues c.rows.entries };
 }
 
 impl Contents {
@@ -44,26 +46,18 @@ impl Contents {
     pub fn rows(&self) -> &BTreeMap<RowKey, Row>
         ensures all { result.now.entries ≡ self.now }
         ensures filled { HaveCells self.now }
+        ensures short { HaveShortValues self.now }
     {
         &self.rows
     }
 
-    /// Puts a cell into the row at a key, which may be new
-    /// (`google.bigtable.v2.Mutation.SetCell`).
-    pub fn set_cell(&mut self, alloc: Global, key: RowKey, cell: Cell) -> Result<(), OutOfMemory>
-        requires { cell.label ≡ None }
-        ensures ok { OnOk result (self.new ≡ put_row key (SetCell cell.family cell.qualifier cell.at cell.value ∷ []) self.old) }
-        ensures err { OnErr result (self.new ≡ self.old) }
+    /// The rows whose keys are in the range, in the order of keys. The first one is searched for.
+    /// Where memory for the search is short, or a bound is longer than a key, the rows before it are
+    /// gone through instead.
+    pub fn rows_in(&self, alloc: Global, range: &RowRange) -> ContentsRows<'_>
+        ensures { result ≡ unread (rows_within range.now self.now) }
     {
-        match self.rows.get_mut(&key) {
-            Some(row) => row.set(cell),
-            None => {
-                let mut row = Row::new(alloc);
-                row.set(cell)?;
-                self.rows.insert(key, row)?;
-                Ok(())
-            }
-        }
+        ContentsRows::new(alloc, rows_within(alloc, &self.rows, range))
     }
 
     /// Makes the changes of a list in order in the row at a key, which may be new, all or none.
@@ -76,6 +70,7 @@ impl Contents {
     ) -> Result<(), OutOfMemory>
         requires some { 1 ≤ length mutations }
         requires sets { AreSets mutations }
+        requires short { HaveShort mutations }
         ensures ok { OnOk result (self.new ≡ put_row key mutations self.old) }
         ensures err { OnErr result (self.new ≡ self.old) }
     {

@@ -2,18 +2,17 @@
 #![tactic(auto)]
 
 mod contents;
+mod contents_rows;
 mod present;
+mod ranges;
 mod row;
 mod schema;
-mod table;
-mod tables;
 
 pub use contents::Contents;
+pub use contents_rows::ContentsRows;
 pub use present::Present;
 pub use row::Row;
 pub use schema::{Schema, has_family};
-pub use table::Table;
-pub use tables::Tables;
 
 #[cfg(test)]
 mod tests;

@@ -1,10 +1,10 @@
 //! The tables as they are, and the numbers that the next entry depends on.
-ghost use Rattle.std.specs.Prelude.{◌≡◌, ◌↔◌, ◌+◌, ◌<◌, ◌≤◌, length, IsTrue, OnOk, OnErr};
+ghost use Rattle.std.specs.Prelude.{◌≡◌, ◌↔◌, ◌+◌, ◌<◌, ◌≤◌, [], length, IsTrue, OnOk, OnErr, option_map, unwrap_or};
 ghost use Rattle.std.specs.Ordering.{nat_cmp};
 ghost use Rattle.std.specs.BTreeMap.{insert_entry};
 ghost use Rattle.bt_state.specs.Contents.{put_row};
-ghost use Rattle.bt_state.specs.Places.{AreSets};
-ghost use Rattle.bt_state.specs.States.{IsLawful, greatest_sequence, moment_used, nothing, present_after, rows_of};
+ghost use Rattle.bt_state.specs.Places.{AreSets, HaveShort};
+ghost use Rattle.bt_state.specs.State.{IsLawful, greatest_sequence, moment_used, nothing, present_after, rows_of};
 
 use crate::contents::Contents;
 use crate::schema::Schema;
@@ -31,7 +31,7 @@ pub struct Present {
 }
 
 impl Model for Present {
-    ghost use Rattle.bt_state.specs.States as states;
+    ghost use Rattle.bt_state.specs.State as states;
 
     ghost Value = { states.Present };
 
@@ -69,6 +69,13 @@ impl Present {
         ensures { result.now ≡ self.now.schema }
     {
         &self.schema
+    }
+
+    /// The rows of the table of that incarnation; `None` where it never had one.
+    pub fn rows_of(&self, incarnation: u64) -> Option<&Contents>
+        ensures { unwrap_or (option_map (λ c. c.now) result) [] ≡ rows_of incarnation self.now.contents }
+    {
+        self.contents.get(&incarnation)
     }
 
     /// The sequence of the last entry, or 0.
@@ -134,6 +141,7 @@ fn change_row(
 ) -> Result<(), OutOfMemory>
     requires some { 1 ≤ length mutations }
     requires sets { AreSets mutations }
+    requires short { HaveShort mutations }
     ensures ok { OnOk result (contents.new.entries ≡ insert_entry nat_cmp contents.old.entries incarnation (put_row key mutations (rows_of incarnation contents.old.entries))) }
     ensures err { OnErr result (contents.new.entries ≡ contents.old.entries) }
 {

@@ -1,10 +1,10 @@
 //! What is known of the tables besides their rows.
-ghost use Rattle.std.specs.Prelude.{◌≡◌, [], None, OnOk, OnErr, option_map};
+ghost use Rattle.std.specs.Prelude.{◌≡◌, [], None, Some, IfSome, OnOk, OnErr, option_map};
 ghost use Rattle.std.specs.List.{list_all};
 ghost use Rattle.std.specs.Ordering.{nat_cmp};
 ghost use Rattle.std.specs.Cmp.Lexicographic.{slice_cmp};
 ghost use Rattle.std.specs.BTreeMap.{insert_entry};
-ghost use Rattle.bt_state.specs.States.{are_of_families, has_family, is_allowed, is_of_family, new_table, table_at, table_of};
+ghost use Rattle.bt_state.specs.State.{are_of_families, has_family, is_allowed, is_of_family, new_table, table_at, table_of};
 ghost use Rattle.bt_state.specs.Indexed.{AreIndexed};
 
 use bt_base::{OutOfMemory, Plain};
@@ -48,8 +48,10 @@ impl Schema {
         }
     }
 
+    /// The table of that name. No other has its incarnation.
     pub fn table(&self, name: &TableName) -> Option<&TableInfo>
-        ensures { option_map (λ t. t.now) result ≡ table_of name.now self.now }
+        ensures table { option_map (λ t. t.now) result ≡ table_of name.now self.now }
+        ensures own { IfSome result (λ t. table_at t.now.incarnation self.now ≡ Some t.now) }
     {
         self.tables.get(name)
     }

@@ -8,7 +8,7 @@ use Rattle.std.proofs.lemmas.Cmp.{nat_cmp_total}
 use Rattle.std.proofs.lemmas.Result.{on_ok_weaker, on_err_weaker}
 use Rattle.std.proofs.lemmas.Map.Steps.{set_value_same}
 use Rattle.bt_state.specs.Contents.{put_row}
-use Rattle.bt_state.specs.States.{rows_of}
+use Rattle.bt_state.specs.State.{rows_of}
 use Rattle.bt_state.proofs.Entries.{set_is_insert}
 use Rattle.bt_state.proofs.present.change_row.Goals as goal
 

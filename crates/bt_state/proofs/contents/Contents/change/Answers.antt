@@ -5,7 +5,7 @@ use Rattle.std.proofs.lemmas.Result.{on_ok_weaker, on_err_weaker}
 use Rattle.std.proofs.lemmas.Map.Steps.{set_value_same}
 use Rattle.bt_types.specs.Mutations.{applied}
 use Rattle.bt_state.specs.Contents.{key_is, put_row}
-use Rattle.bt_state.proofs.Entries.{change_over, change_new, filled_change, filled_change_new}
+use Rattle.bt_state.proofs.Entries.{change_over, change_new, kept_change, kept_new}
 use Rattle.bt_state.proofs.contents.Contents.change.Goals as goal
 
 -- the row that was there has the changes
@@ -26,18 +26,18 @@ returns-in-Some-clause-err c =
     let written : (c.get_mut.follows.lender c.change.new.self).entries ≡ set_value (key_is c.args.key) rows c.change.new.self = search rules in
     on_err_weaker c.change.result (λ (e : c.change.new.self ≡ c.in-Some.row.now). written ∙ ap (set_value (key_is c.args.key) rows) e ∙ set_value_same (key_is c.args.key) rows c.in-Some.row.now found ∙ c.self.view_is) c.change.ensures.err
 
--- each row has a cell still
+-- each row has a cell still, and short values
 pub invariant_of-self : goal.invariant_of-self
 invariant_of-self c =
     let rows = c.self.inside.rows.entries in
     let written : (c.get_mut.follows.lender c.change.new.self).entries ≡ set_value (key_is c.args.key) rows c.change.new.self = search rules in
-    rw written (filled_change c.change.result c.args.key c.args.mutations c.in-Some.row.now c.change.new.self rows c.requires.sets c.requires.some c.self.invariant c.in-Some.ensures.member c.change.ensures.ok c.change.ensures.err)
+    rw written (kept_change c.args.key c.args.mutations c.change.new.self rows c.requires.sets c.requires.short c.requires.some c.self.invariant c.change.result c.in-Some.row.now c.in-Some.ensures.member c.change.ensures.ok c.change.ensures.err)
 
 pub invariant_of-self-in-None : goal.invariant_of-self-in-None
 invariant_of-self-in-None c =
     let rows = c.self.inside.rows.entries in
     let unchanged : (c.get_mut.follows.lender-at-none).entries ≡ rows = search rules in
-    rw (c.in_ok-insert-in-None.ensures.entries, unchanged) (filled_change_new c.args.key c.args.mutations c.change-in-None.new.self rows c.requires.sets c.requires.some c.self.invariant (rw c.new-row.ensures at c.in_ok-change-in-None.ensures.ok))
+    rw (c.in_ok-insert-in-None.ensures.entries, unchanged) (kept_new c.args.key c.args.mutations c.change-in-None.new.self rows c.requires.sets c.requires.short c.requires.some c.self.invariant (rw c.new-row.ensures at c.in_ok-change-in-None.ensures.ok))
 
 -- the new row has the changes
 pub returns-in_ok-insert-in-None-clause-ok : goal.returns-in_ok-insert-in-None-clause-ok

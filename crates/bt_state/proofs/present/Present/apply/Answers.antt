@@ -1,5 +1,4 @@
-use Rattle.std.proofs.Common.{rules}
-use Rattle.bt_state.proofs.Made.{none_next, made_later, made_next, row_sets}
+use Rattle.bt_state.proofs.Made.{none_next, made_later, made_next, row_sets, row_short}
 use Rattle.bt_state.proofs.present.Present.apply.Goals as goal
 use Rattle.bt_state.proofs.present.Present.apply.Goals.{in-Create+in_ok-add-in-Create, in-Row+in_ok-change_row-in-Row}
 
@@ -9,6 +8,9 @@ add-requires-clause-new c = none_next c.self.inside.last c.self.inside.schema c.
 
 pub change_row-requires-clause-sets : goal.change_row-requires-clause-sets
 change_row-requires-clause-sets c = row_sets _ c.in-Row.incarnation c.in-Row.key c.in-Row.mutations c.requires.lawful.spellable c.in-Row.is
+
+pub change_row-requires-clause-short : goal.change_row-requires-clause-short
+change_row-requires-clause-short c = row_short _ c.in-Row.incarnation c.in-Row.key c.in-Row.mutations c.requires.lawful.spellable c.in-Row.is
 
 -- the tables are made before the next sequence, or by it
 pub invariant_of-self-2 : goal.invariant_of-self-2

@@ -1,13 +1,9 @@
-use Rattle.std.proofs.Common.{◌≡◌, ℕ, false, Some, None, sym, ap, ◌∙◌, rules}
+use Rattle.std.proofs.Common.{◌≡◌, ℕ, false, Some, None, ap, ◌∙◌, rules}
 use Rattle.std.specs.Ordering.{nat_cmp}
-use Rattle.std.specs.List.{AllByRecursion}
-use Rattle.std.specs.List.Sorted.{IsStrictlySortedBy}
-use Rattle.std.specs.Cmp.Lexicographic.{slice_cmp}
-use Rattle.std.specs.Map.{lookup, keys_of}
+use Rattle.std.specs.Map.{lookup}
 use Rattle.std.specs.BTreeMap.{is_at}
 use Rattle.bt_state.specs.Contents.{key_is}
-use Rattle.bt_state.specs.States.{table_at}
-use Rattle.bt_state.specs.Indexed.{IsIndexed, AreIndexed}
+use Rattle.bt_state.specs.State.{table_at}
 use Rattle.bt_state.proofs.Indexes.{still_indexed, all_insert}
 use Rattle.bt_state.proofs.schema.Schema.add.Goals as goal
 

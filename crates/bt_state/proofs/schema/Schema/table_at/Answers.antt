@@ -1,9 +1,8 @@
-use Rattle.std.proofs.Common.{◌≡◌, Some, None, sym, ap, ◌∙◌, rules, eq-eqb}
+use Rattle.std.proofs.Common.{◌≡◌, Some, None, sym, rules, eq-eqb}
 use Rattle.std.specs.Ordering.{nat_cmp}
 use Rattle.std.specs.Map.{lookup}
 use Rattle.std.specs.BTreeMap.{is_at}
 use Rattle.bt_state.specs.Contents.{key_is}
-use Rattle.bt_state.specs.States.{table_at}
 use Rattle.bt_state.proofs.Indexes.{none_named, none_found, found_there, other_there, not_here}
 use Rattle.bt_state.proofs.schema.Schema.table_at.Goals as goal
 
