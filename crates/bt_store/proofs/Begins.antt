@@ -19,7 +19,7 @@ use Rattle.bt_manifest.specs.Grammar.{most_body}
 use Rattle.bt_manifest.specs.Spelling.{snapshot_bytes}
 use Rattle.bt_manifest.specs.Slots.{Slot, counting, SlotsSettle}
 use Rattle.bt_manifest.specs.Publishing.{IsNext, IsPublishFault, OldOrNew}
-use Rattle.bt_state.specs.States.{empty_state, nothing}
+use Rattle.bt_state.specs.State.{empty_state, nothing}
 use Rattle.bt_store.specs.Held.{first_snapshot, state_of, HoldsState}
 use Rattle.bt_store.specs.Stands.{Seen, Stands}
 use Rattle.bt_store.proofs.Holds.{slots_same, holds}

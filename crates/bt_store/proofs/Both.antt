@@ -14,7 +14,7 @@ use Rattle.bt_log.specs.Log as logs
 use Rattle.bt_manifest.specs.Loading as manifests
 use Rattle.bt_manifest.specs.declared.snapshot.Snapshot.{Snapshot}
 use Rattle.bt_manifest.specs.Slots.{Slot, Generation, counting}
-use Rattle.bt_state.specs.States.{State, empty_state}
+use Rattle.bt_state.specs.State.{State, empty_state}
 use Rattle.bt_store.specs.Held.{Place, base_state, after_segment, after_snapshot, state_of, disk_state, segment_of, HoldsState, IsBroken, LikeSome}
 use Rattle.bt_store.specs.Faults.{IsReplayFault, IsLoadFault}
 use Rattle.bt_store.specs.Stands.{Seen, Stands}

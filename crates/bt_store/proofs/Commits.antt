@@ -13,7 +13,7 @@ use Rattle.bt_entry.specs.Spelling.{spelling}
 use Rattle.bt_log.specs.Place as places
 use Rattle.bt_log.specs.Segment.{segment}
 use Rattle.bt_log.specs.Log.{IsOpen, IsSomeOpen, WithOrWithout}
-use Rattle.bt_state.specs.States.{State, Event, IsLawful, after, after_record, numbered, present_after}
+use Rattle.bt_state.specs.State.{State, Event, IsLawful, after, after_record, numbered, present_after}
 use Rattle.bt_store.specs.Held.{HoldsState}
 use Rattle.bt_store.specs.Faults.{event, body_of}
 use Rattle.bt_store.specs.Stands.{Seen, Stands}

@@ -2,7 +2,7 @@
 use Rattle.std.proofs.Common.{◌≡◌, ◌+◌, Bool, true, false, cond, List, [], ◌∷◌, ◌++◌, length, Option, None, Some, refl, sym, ◌∙◌, ap, subst, arith}
 use Rattle.std.proofs.lemmas.Bool.{and_from, le-leb}
 use Rattle.bt_entry.specs.declared.numbered.Numbered.{Numbered}
-use Rattle.bt_state.specs.States.{State, Present, Event, IsLawful, after}
+use Rattle.bt_state.specs.State.{State, Present, Event, IsLawful, after}
 use Rattle.bt_store.specs.Held.{event_of, may_come, follow}
 
 abbrev found : State → Option State

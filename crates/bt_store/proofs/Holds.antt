@@ -1,20 +1,33 @@
 -- What the images of a disk hold, over which a store stands.
-use Rattle.std.proofs.Common.{◌≡◌, ◌≢◌, ◌≤◌, ℕ, ◌+◌, ◌==◌, Bool, true, false, ◌&&◌, cond, bytes_eq, List, [], ◌∷◌, Option, None, Some, Ok, refl, ◌∙◌, ap, subst, arith}
+use Rattle.std.proofs.Common.{◌≡◌, ◌≢◌, ◌≤◌, ℕ, ◌+◌, ◌==◌, Bool, true, false, ◌&&◌, cond, bytes_eq, List, [], ◌∷◌, Option, None, Some, Ok, Err, refl, ◌∙◌, ap, subst, arith}
 use Rattle.std.specs.Prelude.{nat_le, nat_lt}
 use Rattle.std.proofs.lemmas.Bool.{and_parts, leb-true, eqb-true}
-use Rattle.bt_outside.specs.Disk.{Files}
+use Rattle.bt_outside.specs.Disk.{Alike, Files}
 use Rattle.bt_entry.specs.declared.numbered.Numbered.{Numbered}
 use Rattle.bt_log.specs.Segment.{segment, entries_of}
 use Rattle.bt_manifest.specs.declared.snapshot.Segment.{Segment}
 use Rattle.bt_manifest.specs.declared.snapshot.Snapshot.{Snapshot}
-use Rattle.bt_manifest.specs.Slots.{slot_at, latest, counting}
-use Rattle.bt_state.specs.States.{State}
-use Rattle.bt_store.specs.Held.{no_tables, only_segment, has_no_files, segment_of, base_state, follow, or_place, after_segment, after_snapshot, state_of, HoldsState}
+use Rattle.bt_manifest.specs.Slots.{Slot, slot_at, latest, counting}
+use Rattle.bt_state.specs.State.{State}
+use Rattle.bt_store.specs.Held.{no_tables, only_segment, has_no_files, segment_of, base_state, follow, or_place, after_segment, after_snapshot, state_of, disk_state, HoldsState}
 use Rattle.bt_store.specs.Stands.{Seen, Stands}
 
 -- what counts is read off the slots alone
 pub slots_same : (d c : Files) → c 0 ≡ d 0 → c 1 ≡ d 1 → counting c ≡ counting d
 slots_same d c zeroth first = ap (λ (l : List ℕ). latest (slot_at 0 l) (slot_at 1 (c 1))) zeroth ∙ ap (λ (l : List ℕ). latest (slot_at 0 (d 0)) (slot_at 1 l)) first
+
+after_same : (d c : Files) → Alike d c → (s : Snapshot) (generation : ℕ) (log : Option ℕ) → after_snapshot c s generation log ≡ after_snapshot d s generation log
+after_same d c alike s generation None = refl
+after_same d c alike s generation (Some file) = ap (λ (l : List ℕ). after_segment file (base_state s) (segment (s.base + 1) l)) (alike file)
+
+state_same : (d c : Files) → Alike d c → (slot : Slot) → state_of c slot ≡ state_of d slot
+state_same d c alike (Err file) = refl
+state_same d c alike (Ok None) = refl
+state_same d c alike (Ok (Some x)) = after_same d c alike x.0 x.1 (segment_of x.0)
+
+-- files that are no others stand for the same
+pub alike_same : (d c : Files) → Alike d c → disk_state c ≡ disk_state d
+alike_same d c alike = ap (state_of c) (slots_same d c (alike 0) (alike 1)) ∙ state_same d c alike (counting d)
 
 -- a disk whose manifest names a log, and the log leads to the state
 pub holds : (c : Files) (snapshot : Snapshot) (generation file : ℕ) (entries : List Numbered) (s : State) → counting c ≡ Ok (Some (snapshot, generation)) → segment_of snapshot ≡ Some file → segment (snapshot.base + 1) (c file) ≡ Ok entries

@@ -4,7 +4,7 @@ use Rattle.bt_entry.specs.declared.entry.Entry.{Entry}
 use Rattle.bt_entry.specs.Spelling.{spelling}
 use Rattle.bt_gate.specs.declared.log_fault.LogFault.{LogFault}
 use Rattle.bt_gate.specs.declared.log_fault.LogFault.TheVariants as fault
-use Rattle.bt_state.specs.States.{Event, numbered, greatest_sequence}
+use Rattle.bt_state.specs.State.{Event, numbered, greatest_sequence}
 use Rattle.bt_store.specs.Stands.{Seen}
 
 abbrev pub event : ℕ → Entry → Event

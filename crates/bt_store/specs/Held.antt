@@ -7,7 +7,7 @@ use Rattle.bt_manifest.specs.declared.snapshot.Segment.{Segment}
 use Rattle.bt_manifest.specs.declared.snapshot.TableFiles.{TableFiles}
 use Rattle.bt_manifest.specs.declared.snapshot.Snapshot.{Snapshot}
 use Rattle.bt_manifest.specs.Slots.{Slot, counting}
-use Rattle.bt_state.specs.States.{State, Present, Event, empty_state, after, is_allowed}
+use Rattle.bt_state.specs.State.{State, Present, Event, empty_state, after, is_allowed}
 
 -- a file, and a place in it
 abbrev pub Place : Type 0

@@ -6,7 +6,7 @@ use Rattle.bt_log.specs.Place as log
 use Rattle.bt_log.specs.Log.{IsOpen}
 use Rattle.bt_manifest.specs.declared.snapshot.Snapshot.{Snapshot}
 use Rattle.bt_manifest.specs.Slots.{counting, SlotsSettle}
-use Rattle.bt_state.specs.States.{State, Present}
+use Rattle.bt_state.specs.State.{State, Present}
 use Rattle.bt_store.specs.declared.limits.Limits.{Limits}
 use Rattle.bt_store.specs.Held.{segment_of, base_state, follow}
 

@@ -1,9 +1,9 @@
 //! A disk on which no slot is opened.
-ghost use Rattle.std.specs.Prelude.{◌≡◌, Ok, None, IfOk, IfErr};
+ghost use Rattle.std.specs.Prelude.{◌≡◌, Ok, None, IfOk, IfErr, OnOk};
 ghost use Rattle.bt_crash.specs.Moments.{Keeps};
 ghost use Rattle.bt_gate.specs.Faults.{Failed, IsDiskFault};
 ghost use Rattle.bt_manifest.specs.Slots.{SlotsSettle, counting};
-ghost use Rattle.bt_state.specs.States.{empty_state};
+ghost use Rattle.bt_state.specs.State.{empty_state};
 ghost use Rattle.bt_store.specs.Held.{HoldsState, first_snapshot};
 ghost use Rattle.bt_store.specs.Stands.{Stands};
 
@@ -31,6 +31,7 @@ pub(crate) fn begin<D: Disk>(
     ensures stands { D.tells → IfOk result (λ store. Stands store empty_state (D.held disk.new) (D.may_leave disk.new)) }
     ensures any_moment { Keeps D.Disk disk.old disk.new (HoldsState empty_state) }
     ensures fault { IfErr result (IsDiskFault (Failed D.Disk disk.old disk.new)) }
+    ensures fine { OnOk result ((D.faults disk.new ≡ D.faults disk.old) × (D.write_faults disk.new ≡ D.write_faults disk.old)) }
     ensures limits { IfOk result (λ store. store.limits ≡ limits.now) }
 {
     let snapshot = first_snapshot(alloc)?;

@@ -6,9 +6,11 @@ mod limits;
 mod loaded;
 mod staging;
 mod store;
+mod table_cursor;
 #[cfg(test)]
 mod tests;
 
 pub use bt_gate::LogFault as StoreFault;
 pub use limits::Limits;
 pub use store::Store;
+pub use table_cursor::TableCursor;

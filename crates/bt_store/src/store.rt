@@ -5,7 +5,8 @@ ghost use Rattle.bt_entry.specs.Grammar.{last_moment};
 ghost use Rattle.bt_crash.specs.Moments.{Keeps};
 ghost use Rattle.bt_crash.specs.Changes.{StepsThrough};
 ghost use Rattle.bt_gate.specs.Faults.{Failed, WriteFailed};
-ghost use Rattle.bt_state.specs.States.{State, IsLawful, after, after_record, greatest_sequence, moment_used, present_after};
+ghost use Rattle.bt_state.specs.State.{State, IsLawful, after, after_record, greatest_sequence, moment_used, present_after, rows_of};
+ghost use Rattle.bt_state.specs.Ranges.{rows_within, unread};
 ghost use Rattle.bt_store.specs.Held.{HoldsState, IsBroken, LikeSome, disk_state};
 ghost use Rattle.bt_store.specs.Stands.{Stands};
 ghost use Rattle.bt_store.specs.Faults.{event, body_of, IsTooLarge, IsRefused, IsCommitFault, IsLoadFault, IsStageFault};
@@ -14,12 +15,14 @@ use crate::begun::begin;
 use crate::limits::Limits;
 use crate::loaded::load_from;
 use crate::staging::spell;
+use crate::table_cursor::TableCursor;
 use bt_entry::Entry;
 use bt_gate::LogFault;
 use bt_log::{Log, Record};
 use bt_manifest::load_manifest;
 use bt_outside::Disk;
-use bt_state::{Present, Schema};
+use bt_state::{ContentsRows, Present, Schema};
+use bt_types::{NoReads, RowRange};
 use std::alloc::Global;
 use std::marker::Model;
 
@@ -67,8 +70,10 @@ impl Store {
     /// the disk failed, which is then its last; and `OutOfMemory`.
     pub fn load<D: Disk>(alloc: Global, disk: &mut D, limits: &Limits) -> Result<Store, LogFault>
         ensures stands { D.tells → IfOk result (λ store. (s : State) × (disk_state (D.held disk.old) ≡ Ok s) × Stands store s (D.held disk.new) (D.may_leave disk.new)) }
+        ensures same { D.tells → disk_state (D.held disk.new) ≡ disk_state (D.held disk.old) }
         ensures any_moment { Keeps D.Disk disk.old disk.new (LikeSome (D.may_leave disk.old)) }
         ensures fault { IfErr result (IsLoadFault (Failed D.Disk disk.old disk.new) (λ file at. D.tells → IsBroken (D.held disk.old) file at)) }
+        ensures fine { OnOk result ((D.faults disk.new ≡ D.faults disk.old) × (D.write_faults disk.new ≡ D.write_faults disk.old)) }
         ensures limits { IfOk result (λ store. store.limits ≡ limits.now) }
     {
         let Some((snapshot, generation)) = load_manifest(alloc, disk)? else {
@@ -131,11 +136,33 @@ impl Store {
         &self.present
     }
 
+    /// The limits with which it was loaded.
+    pub fn limits(&self) -> &Limits
+        ensures { result.now ≡ self.now.limits }
+    {
+        &self.limits
+    }
+
     /// What is known of the tables besides their rows.
     pub fn schema(&self) -> &Schema
         ensures { result.now ≡ self.now.present.schema }
     {
         self.present.schema()
+    }
+
+    /// The rows whose keys are in the range of the table of that incarnation, in the order of keys.
+    /// There are none where it never had one.
+    pub fn cursor(&self, alloc: Global, incarnation: u64, range: &RowRange) -> TableCursor<'_>
+        ensures { result.rows ≡ unread (rows_within range.now (rows_of incarnation self.now.present.contents)) }
+    {
+        let rows = match self.present.rows_of(incarnation) {
+            Some(contents) => contents.rows_in(alloc, range),
+            None => ContentsRows::empty(alloc),
+        };
+        TableCursor {
+            rows,
+            reads: NoReads,
+        }
     }
 
     /// The sequence of the last entry, or 0.

@@ -1,8 +1,9 @@
 //! A store over a disk in memory, and what a crash leaves of it.
-use crate::{Limits, Store, StoreFault};
+use crate::{Limits, Store, StoreFault, TableCursor};
+use bt_base::Blob;
 use bt_entry::{Entry, Families};
 use bt_outside::{Disk, MemoryDisk};
-use bt_types::TableName;
+use bt_types::{RowRange, Rows, TableName};
 use std::alloc::Global;
 use std::test::Fail;
 
@@ -71,5 +72,24 @@ fn a_table_is_absent_or_whole(rt: HostRuntime) -> Result<(), Fail> {
         let _either_still = table_after(rt.alloc(), 4, choice)?;
         assert!(rt; table_after(rt.alloc(), 5, choice)?);
     }
+    Ok(())
+}
+
+#[test]
+fn a_new_table_has_no_rows(rt: HostRuntime) -> Result<(), Fail> {
+    let alloc = rt.alloc();
+    let mut disk = MemoryDisk::new(alloc);
+    let incarnation = create_table(alloc, &mut disk, table_name(alloc)?)?;
+    let store = load(alloc, &mut disk)?;
+    assert_eq!(rt; store.limits().slice, 256);
+    let range = RowRange {
+        start: Blob::new(alloc, b"a")?,
+        end: None,
+    };
+    let TableCursor {
+        mut rows,
+        mut reads,
+    } = store.cursor(alloc, incarnation, &range);
+    assert!(rt; rows.next_row(&mut reads)?.is_none());
     Ok(())
 }

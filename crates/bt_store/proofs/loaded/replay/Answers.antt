@@ -3,7 +3,7 @@ use Rattle.std.specs.List.{AllByRecursion}
 use Rattle.std.specs.Vec.Iter.{into_iter_items}
 use Rattle.std.proofs.lemmas.Result.{err_from_is_err_and}
 use Rattle.bt_entry.specs.Grammar.{IsSpellableNumbered}
-use Rattle.bt_state.specs.States.{Present}
+use Rattle.bt_state.specs.State.{Present}
 use Rattle.bt_store.specs.Held.{base_state, follow}
 use Rattle.bt_store.proofs.Loads.{Replays, begins, goes_on, refuses, ends, nothing_left, room, replay_turn}
 use Rattle.bt_store.proofs.loaded.replay.Goals as goal

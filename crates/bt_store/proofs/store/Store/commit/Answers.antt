@@ -1,5 +1,5 @@
 use Rattle.std.proofs.Common.{ap, ◌∙◌}
-use Rattle.bt_state.specs.States.{present_after}
+use Rattle.bt_state.specs.State.{present_after}
 use Rattle.bt_store.specs.Faults.{event}
 use Rattle.bt_store.specs.Stands.{Seen}
 use Rattle.bt_store.proofs.Commits.{committed, stands_next}

@@ -1,4 +1,5 @@
 use Rattle.std.proofs.Common.{ap, ◌∙◌}
+use Rattle.bt_store.proofs.Holds.{alike_same}
 use Rattle.bt_store.proofs.Both.{like_begun, empty_before, begun_stands, begun_fault, said_of, like_loaded, loaded_stands, loaded_fault}
 use Rattle.bt_store.proofs.store.Store.load.Goals as goal
 
@@ -27,3 +28,6 @@ returns-clause-any_moment g c = like_loaded g.D.Disk c.args.disk.now c.load_mani
 pub returns-clause-fault : goal.returns-clause-fault
 returns-clause-fault g c =
     loaded_fault g.D.Disk c.args.disk.now c.load_manifest.new.disk c.load_from.new.disk c.load_manifest.ensures.held c.in_ok-snapshot.ensures.fine.0 c.load_from.result c.load_from.ensures.fault
+
+pub returns-clause-same : goal.returns-clause-same
+returns-clause-same g c tells = alike_same _ _ (c.load_from.ensures.held tells) ∙ alike_same _ _ (c.load_manifest.ensures.held tells)
