@@ -11,7 +11,7 @@ use Rattle.serde_json.specs.Data.{Data, array, boolean, number, string, unsigned
 use Rattle.serde_json.specs.View.{items_of}
 use Rattle.serde_json.specs.Written.{has_float, items_have_float, members_have_float}
 use Rattle.bt_messages.specs.Chunks.{with_time, base64, chunk_data, is_new_family, is_new_column, is_first}
-use Rattle.bt_messages.specs.Lines.{families_data, families_onto, is_nonempty, table_data, response_data, status_data, with_if, with_number, with_text}
+use Rattle.bt_messages.specs.Lines.{families_data, families_onto, is_nonempty, response_data, status_data, with_if, with_number, with_text}
 use Rattle.bt_messages.specs.Responses.{is_nonzero, names_of, shown, shown_bytes, shown_chunk, shown_chunks, shown_label, shown_name, shown_table, with_bytes, with_int64, with_some}
 use Rattle.bt_messages.specs.declared.response.Response.{Response}
 use Rattle.bt_messages.specs.declared.response.Response.TheVariants.{CreateTable, MutateRow, ReadRows}
@@ -44,9 +44,6 @@ with_if_plain false k d ms p q = q
 families_plain : (ms : Members) (fs : List (List ℕ)) → members_have_float ms ≡ false → members_have_float (families_onto ms fs) ≡ false
 families_plain ms [] q = q
 families_plain ms (f ∷ fs) q = families_plain (put f (object no_members) ms) fs (put_plain f (object no_members) ms refl q)
-
-pub table_plain : (name : List ℕ) (fs : List (List ℕ)) → has_float (response_data (table_data name fs)) ≡ false
-table_plain name fs = neither _ false (neither _ false (families_plain no_members fs refl) refl) refl
 
 pub chunk_plain : (key : List ℕ) (before : Option Cell) (c : Cell) (last : Bool) → has_float (chunk_data key before c last) ≡ false
 chunk_plain key before c last =

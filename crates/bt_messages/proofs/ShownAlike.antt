@@ -1,4 +1,4 @@
--- Cells and tables are shown alike by the definitions of the replies and by those of the responses.
+-- Cells are shown alike by the definition of a read's reply and by that of the responses.
 use Rattle.std.proofs.Common.{◌≡◌, ◌≤◌, ℕ, List, [], length, Bool, true, false, codes, refl, ap, ◌∙◌, arith}
 use Rattle.std.specs.Prelude.{if◌then◌else◌}
 use Rattle.std.specs.Str.{IsUtf8, is_utf8}
@@ -8,8 +8,8 @@ use Rattle.bt_types.specs.Grammar.{is_family_name, is_row_key}
 use Rattle.bt_entry.proofs.LawfulNames.{is_no_family, key_len}
 use Rattle.serde_json.specs.Data.{Data, boolean, string, object, Members, no_members, put}
 use Rattle.bt_messages.specs.Chunks.{base64, is_first, is_new_column, is_new_family, with_time}
-use Rattle.bt_messages.specs.Lines.{families_data, is_nonempty, with_if}
-use Rattle.bt_messages.specs.Responses.{CellsAreShownAlike, TablesAreShownAlike, names_of, shown_bytes, shown_name, where_asked, with_bytes, with_some}
+use Rattle.bt_messages.specs.Lines.{is_nonempty, with_if}
+use Rattle.bt_messages.specs.Responses.{CellsAreShownAlike, shown_bytes, shown_name, where_asked, with_bytes, with_some}
 
 is_text : (b : List ℕ) (t : Bool) → is_utf8 b ≡ t → is_family_name b ≡ true → IsUtf8 b
 is_text b true e h = IsUtf8-from_is_utf8 b e
@@ -49,8 +49,3 @@ cells_are_shown_alike key before c last row name =
     (asked_for column (codes "qualifier") shown_bytes c.qualifier (string (base64 c.qualifier)) in_row refl
     ∙ ap (λ ms. with_if column (codes "qualifier") (string (base64 c.qualifier)) ms)
     (keyed first key timed (some_bytes key row))))
-
-pub tables_are_shown_alike : TablesAreShownAlike
-tables_are_shown_alike t some =
-    let named = put (codes "granularity") (string (codes "MILLIS")) (put (codes "name") (string t.name) no_members) in
-    ap object (is_there (is_nonempty t.families) (codes "columnFamilies") (families_data (names_of t.families)) named some)

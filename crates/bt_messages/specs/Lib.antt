@@ -1,5 +1,3 @@
-pub mod Json
-pub mod Requests
 pub mod Lines
 pub mod Refusals
 pub mod Chunks

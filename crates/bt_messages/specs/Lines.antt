@@ -51,14 +51,3 @@ families_onto ms (f ∷ fs) = families_onto (put f (object no_members) ms) fs
 -- the families of a table, each without a collection rule
 abbrev pub families_data : List (List ℕ) → Data
 families_data families = object (families_onto no_members families)
-
--- what a table is shown as (google.bigtable.admin.v2.Table)
-abbrev pub table_data : List ℕ → List (List ℕ) → Data
-table_data name families =
-    object (put (codes "columnFamilies") (families_data families)
-    (put (codes "granularity") (string (codes "MILLIS"))
-    (put (codes "name") (string name) no_members)))
-
--- the line that shows a table
-abbrev pub table_response : List ℕ → List (List ℕ) → List ℕ
-table_response name families = line_of (response_data (table_data name families))

@@ -1,29 +1,60 @@
 -- The one table of refusals: the code (google.rpc.Code) and the text of each.
-use Rattle.std.specs.Prelude.{ℕ, List, codes}
+use Rattle.std.specs.Prelude.{ℕ, List, ◌++◌, codes}
+use Rattle.std.specs.Str.Lossy.{utf8_lossy}
 use Rattle.bt_messages.specs.Lines.{line_of, status_data}
 use Rattle.bt_messages.specs.declared.refusal.Refusal.{Refusal}
-use Rattle.bt_messages.specs.declared.refusal.Refusal.TheVariants.{NotBuilt, TableExists, TableNotFound, FamilyNotFound, ChangeTooLarge, OutOfMemory, LineTooLong, ConnectionTooLong, LineNotEnded}
+use Rattle.bt_messages.specs.declared.refusal.Refusal.TheVariants.{NotJson, BadEnvelope, UnknownMethod, NotBuilt, BadName, TableNotFound, TableExists, BadRowKey, NoMutations, TooManyMutations, MutationWithoutKind, FamilyNotFound, QualifierTooLong, BadTimestamp, ValueTooLarge, BadFamilyName, TooManyFamilies, TooManyTables, ChangeTooLarge, OutOfMemory, DiskFailed, LineTooLong, ConnectionTooLong, LineNotEnded}
 
 -- the code of a refusal
 abbrev pub refusal_code : Refusal → ℕ
+refusal_code NotJson = 3
+refusal_code BadEnvelope = 3
+refusal_code UnknownMethod = 12
 refusal_code NotBuilt = 12
-refusal_code TableExists = 6
+refusal_code BadName = 3
 refusal_code TableNotFound = 5
+refusal_code TableExists = 6
+refusal_code BadRowKey = 3
+refusal_code NoMutations = 3
+refusal_code TooManyMutations = 3
+refusal_code MutationWithoutKind = 3
 refusal_code FamilyNotFound = 5
+refusal_code QualifierTooLong = 3
+refusal_code BadTimestamp = 3
+refusal_code ValueTooLarge = 3
+refusal_code BadFamilyName = 3
+refusal_code TooManyFamilies = 9
+refusal_code TooManyTables = 9
 refusal_code ChangeTooLarge = 9
 refusal_code OutOfMemory = 8
+refusal_code DiskFailed = 14
 refusal_code LineTooLong = 3
 refusal_code ConnectionTooLong = 3
 refusal_code LineNotEnded = 3
 
 -- the text of a refusal
 abbrev pub refusal_text : Refusal → List ℕ
+refusal_text NotJson = codes "not json"
+refusal_text BadEnvelope = codes "bad envelope"
+refusal_text UnknownMethod = codes "unknown method"
 refusal_text NotBuilt = codes "not built"
-refusal_text TableExists = codes "table exists"
+refusal_text BadName = codes "bad name"
 refusal_text TableNotFound = codes "table not found"
+refusal_text TableExists = codes "table exists"
+refusal_text BadRowKey = codes "bad row key"
+refusal_text NoMutations = codes "no mutations"
+refusal_text TooManyMutations = codes "too many mutations"
+refusal_text MutationWithoutKind = codes "mutation without kind"
 refusal_text FamilyNotFound = codes "family not found"
+refusal_text QualifierTooLong = codes "qualifier too long"
+refusal_text BadTimestamp = codes "bad timestamp"
+refusal_text ValueTooLarge = codes "value too large"
+refusal_text BadFamilyName = codes "bad family name"
+refusal_text TooManyFamilies = codes "too many families"
+refusal_text TooManyTables = codes "too many tables"
 refusal_text ChangeTooLarge = codes "change too large"
 refusal_text OutOfMemory = codes "out of memory"
+refusal_text DiskFailed = codes "disk failed"
 refusal_text LineTooLong = codes "line too long"
 refusal_text ConnectionTooLong = codes "connection too long"
 refusal_text LineNotEnded = codes "line not ended"
@@ -31,3 +62,11 @@ refusal_text LineNotEnded = codes "line not ended"
 -- the last line of a request that was refused so
 abbrev pub refusal_line : Refusal → List ℕ
 refusal_line r = line_of (status_data (refusal_code r) (refusal_text r))
+
+-- the last line of a request that has a member which is not supported
+abbrev pub unsupported_line : List ℕ → List ℕ
+unsupported_line name = line_of (status_data 12 (codes "unsupported " ++ utf8_lossy name))
+
+-- the last line of a request that has a bad field
+abbrev pub bad_field_line : List ℕ → List ℕ
+bad_field_line name = line_of (status_data 3 (codes "bad field " ++ utf8_lossy name))

@@ -10,7 +10,7 @@ use Rattle.bt_entry.specs.declared.table_info.TableInfo.{TableInfo}
 use Rattle.serde_json.specs.Data.{Data, boolean, string, array, object, item, no_items, Members, no_members, put}
 use Rattle.serde_json.specs.View.{items_of}
 use Rattle.bt_messages.specs.Chunks.{base64, chunk_data, is_first, is_new_column, is_new_family}
-use Rattle.bt_messages.specs.Lines.{families_data, is_nonempty, table_data, with_if, with_number}
+use Rattle.bt_messages.specs.Lines.{families_data, is_nonempty, with_if, with_number}
 use Rattle.bt_messages.specs.declared.response.Response.{Response}
 use Rattle.bt_messages.specs.declared.response.Response.TheVariants.{CreateTable, MutateRow, ReadRows}
 
@@ -98,7 +98,3 @@ cell_chunk key before c last = record {
 abbrev pub CellsAreShownAlike : Type 0
 CellsAreShownAlike = (key : List ℕ) (before : Option Cell) (c : Cell) (last : Bool)
     → is_row_key key ≡ true → is_family_name c.family ≡ true → shown_chunk (cell_chunk key before c last) ≡ chunk_data key before c last
-
--- a table with a family is shown as the reply that makes it shows it
-abbrev pub TablesAreShownAlike : Type 0
-TablesAreShownAlike = (t : TableInfo) → is_nonempty t.families ≡ true → shown_table t ≡ table_data t.name (names_of t.families)

@@ -1,9 +1,10 @@
 //! Lines of replies.
 ghost use Rattle.std.specs.Prelude.{◌≡◌, ◌++◌, false, IfOk, OnOk};
-ghost use Rattle.serde_json.specs.Data.{object, no_members};
 ghost use Rattle.serde_json.specs.View.{view};
 ghost use Rattle.serde_json.specs.Written.{has_float};
 ghost use Rattle.bt_messages.specs.Lines.{line_of, response_data, ok_line};
+ghost use Rattle.bt_messages.specs.Responses.{shown};
+ghost use Rattle.bt_messages.specs.declared.response.Response.TheVariants.{MutateRow};
 
 use bt_base::OutOfMemory;
 use serde_json::Value;
@@ -13,7 +14,7 @@ use std::alloc::Global;
 /// status of success. They take no memory.
 #[tactic(auto, unfolding(crate::proofs::LineTexts::line_on_literals))]
 pub fn empty_lines() -> &'static [u8]
-    ensures { result.now ≡ line_of (response_data (object no_members)) ++ ok_line }
+    ensures { result.now ≡ line_of (response_data (shown MutateRow)) ++ ok_line }
 {
     b"{\"response\":{}}\n{\"status\":{}}\n"
 }

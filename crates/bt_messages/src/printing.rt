@@ -1,11 +1,11 @@
 //! The lines of responses and statuses.
-ghost use Rattle.std.specs.Prelude.{◌≡◌, IfOk};
+ghost use Rattle.std.specs.Prelude.{◌≡◌, ◌++◌, IfOk};
 ghost use Rattle.serde_json.specs.View.{view};
-ghost use Rattle.bt_messages.specs.Lines.{line_of, response_data, status_data};
+ghost use Rattle.bt_messages.specs.Lines.{line_of, ok_line, response_data, status_data};
 ghost use Rattle.bt_messages.specs.Responses.{shown};
 
 use crate::chunk_value::chunks_value;
-use crate::lines::line;
+use crate::lines::{line, ok_line};
 use crate::members::{put_number, put_text};
 use crate::response::Response;
 use crate::table_value::table_value;
@@ -19,8 +19,17 @@ use std::alloc::Global;
 pub fn response_line(alloc: Global, response: &Response) -> Result<Blob, OutOfMemory>
     ensures { IfOk result (λ out. out ≡ line_of (response_data (shown response.now))) }
 {
-    let value = response_value(alloc, response)?;
-    let out = line(alloc, &value)?;
+    let out = response_bytes(alloc, response)?;
+    Ok(Blob::from_vec(out))
+}
+
+/// The lines of a request that was served with one response: the line of that response, and the
+/// status of success.
+pub fn served_lines(alloc: Global, response: &Response) -> Result<Blob, OutOfMemory>
+    ensures { IfOk result (λ out. out ≡ line_of (response_data (shown response.now)) ++ ok_line) }
+{
+    let mut out = response_bytes(alloc, response)?;
+    out.extend_from_slice(ok_line())?;
     Ok(Blob::from_vec(out))
 }
 
@@ -32,6 +41,13 @@ pub fn status_line(alloc: Global, code: u8, text: &str) -> Result<Blob, OutOfMem
     let value = status_value(alloc, code, text)?;
     let out = line(alloc, &value)?;
     Ok(Blob::from_vec(out))
+}
+
+fn response_bytes(alloc: Global, response: &Response) -> Result<Vec<u8>, OutOfMemory>
+    ensures { IfOk result (λ out. out.items ≡ line_of (response_data (shown response.now))) }
+{
+    let value = response_value(alloc, response)?;
+    line(alloc, &value)
 }
 
 fn response_value(alloc: Global, response: &Response) -> Result<Value, OutOfMemory>

@@ -10,9 +10,10 @@ use serde_json::Value;
 use std::alloc::Global;
 use std::marker::Model;
 
-/// The reply of a read, made row after row (`google.bigtable.v2.ReadRowsResponse`). It holds the
-/// bytes of the line so far and nothing else. A contract sees those bytes, `with_rows [] rows` after
-/// those rows. After a refusal it is only dropped.
+/// The reply of a read, made row after row or cell after cell
+/// (`google.bigtable.v2.ReadRowsResponse`). It holds the bytes of the line so far and nothing else.
+/// A contract sees those bytes, `with_rows [] rows` after those rows. After a refusal it is only
+/// dropped.
 #[derive(Debug, Drop)]
 pub struct RowsReply {
     begun: Vec<u8>,
@@ -61,7 +62,11 @@ impl RowsReply {
         Ok(())
     }
 
-    fn add_cell(
+    /// Puts one cell of a row behind what was given, for a caller that has its cells one at a time.
+    /// The cells of a row are given in turn: `before` is the cell before this one in the row, and
+    /// `last` says that this is the last one of the row. So given, they are the row that `add_row`
+    /// puts (`with_cells` has the cells that are left).
+    pub fn add_cell(
         &mut self,
         alloc: Global,
         key: &RowKey,

@@ -2,21 +2,77 @@ use Rattle.std.proofs.Common.{refl}
 use Rattle.bt_messages.proofs.LineTexts.{line_on_literals}
 use Rattle.bt_messages.proofs.refusal.Refusal.line.Goals as goal
 
+pub returns-in-NotJson : goal.returns-in-NotJson
+unfolding line_on_literals
+returns-in-NotJson c = rw c.in-NotJson.is refl
+
+pub returns-in-BadEnvelope : goal.returns-in-BadEnvelope
+unfolding line_on_literals
+returns-in-BadEnvelope c = rw c.in-BadEnvelope.is refl
+
+pub returns-in-UnknownMethod : goal.returns-in-UnknownMethod
+unfolding line_on_literals
+returns-in-UnknownMethod c = rw c.in-UnknownMethod.is refl
+
 pub returns-in-NotBuilt : goal.returns-in-NotBuilt
 unfolding line_on_literals
 returns-in-NotBuilt c = rw c.in-NotBuilt.is refl
 
-pub returns-in-TableExists : goal.returns-in-TableExists
+pub returns-in-BadName : goal.returns-in-BadName
 unfolding line_on_literals
-returns-in-TableExists c = rw c.in-TableExists.is refl
+returns-in-BadName c = rw c.in-BadName.is refl
 
 pub returns-in-TableNotFound : goal.returns-in-TableNotFound
 unfolding line_on_literals
 returns-in-TableNotFound c = rw c.in-TableNotFound.is refl
 
+pub returns-in-TableExists : goal.returns-in-TableExists
+unfolding line_on_literals
+returns-in-TableExists c = rw c.in-TableExists.is refl
+
+pub returns-in-BadRowKey : goal.returns-in-BadRowKey
+unfolding line_on_literals
+returns-in-BadRowKey c = rw c.in-BadRowKey.is refl
+
+pub returns-in-NoMutations : goal.returns-in-NoMutations
+unfolding line_on_literals
+returns-in-NoMutations c = rw c.in-NoMutations.is refl
+
+pub returns-in-TooManyMutations : goal.returns-in-TooManyMutations
+unfolding line_on_literals
+returns-in-TooManyMutations c = rw c.in-TooManyMutations.is refl
+
+pub returns-in-MutationWithoutKind : goal.returns-in-MutationWithoutKind
+unfolding line_on_literals
+returns-in-MutationWithoutKind c = rw c.in-MutationWithoutKind.is refl
+
 pub returns-in-FamilyNotFound : goal.returns-in-FamilyNotFound
 unfolding line_on_literals
 returns-in-FamilyNotFound c = rw c.in-FamilyNotFound.is refl
+
+pub returns-in-QualifierTooLong : goal.returns-in-QualifierTooLong
+unfolding line_on_literals
+returns-in-QualifierTooLong c = rw c.in-QualifierTooLong.is refl
+
+pub returns-in-BadTimestamp : goal.returns-in-BadTimestamp
+unfolding line_on_literals
+returns-in-BadTimestamp c = rw c.in-BadTimestamp.is refl
+
+pub returns-in-ValueTooLarge : goal.returns-in-ValueTooLarge
+unfolding line_on_literals
+returns-in-ValueTooLarge c = rw c.in-ValueTooLarge.is refl
+
+pub returns-in-BadFamilyName : goal.returns-in-BadFamilyName
+unfolding line_on_literals
+returns-in-BadFamilyName c = rw c.in-BadFamilyName.is refl
+
+pub returns-in-TooManyFamilies : goal.returns-in-TooManyFamilies
+unfolding line_on_literals
+returns-in-TooManyFamilies c = rw c.in-TooManyFamilies.is refl
+
+pub returns-in-TooManyTables : goal.returns-in-TooManyTables
+unfolding line_on_literals
+returns-in-TooManyTables c = rw c.in-TooManyTables.is refl
 
 pub returns-in-ChangeTooLarge : goal.returns-in-ChangeTooLarge
 unfolding line_on_literals
@@ -25,6 +81,10 @@ returns-in-ChangeTooLarge c = rw c.in-ChangeTooLarge.is refl
 pub returns-in-OutOfMemory : goal.returns-in-OutOfMemory
 unfolding line_on_literals
 returns-in-OutOfMemory c = rw c.in-OutOfMemory.is refl
+
+pub returns-in-DiskFailed : goal.returns-in-DiskFailed
+unfolding line_on_literals
+returns-in-DiskFailed c = rw c.in-DiskFailed.is refl
 
 pub returns-in-LineTooLong : goal.returns-in-LineTooLong
 unfolding line_on_literals
