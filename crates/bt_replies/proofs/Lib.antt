@@ -1,0 +1,2 @@
+pub mod Mutates
+pub mod Creates

@@ -1,0 +1,5 @@
+pub mod Replies
+pub mod Tables
+pub mod Rows
+pub mod Lines
+pub mod Plans

@@ -1,0 +1,114 @@
+//! From a line to its plan.
+ghost use Rattle.std.specs.Prelude.{◌≡◌, ◌≤◌, ℕ, IfOk};
+ghost use Rattle.serde_json.specs.View.{view};
+ghost use Rattle.bt_entry.specs.Grammar.{last_moment};
+ghost use Rattle.bt_replies.specs.Lines.{asked_reply, envelope_refusal, reply_to, request_refusal_line, request_reply};
+ghost use Rattle.bt_replies.specs.Plans.{IsPlan};
+ghost use Rattle.bt_replies.specs.Replies.{refused_by};
+ghost use Rattle.bt_requests.specs.Readers.{HasOrder};
+ghost use Rattle.bt_requests.specs.Requests.{request_in};
+ghost use Rattle.bt_state.specs.State.{Present};
+
+use crate::answer::Answer;
+use crate::create_table::create_table;
+use crate::mutate_row::mutate_row;
+use crate::plan::Plan;
+use crate::read_rows::read_rows;
+use bt_base::OutOfMemory;
+use bt_messages::{Refusal, bad_field_line, unsupported_line};
+use bt_requests::{LineRefusal, Method, Request, RequestRefusal, read_envelope, read_request};
+use bt_state::Present;
+use serde_json::Value;
+use std::alloc::Global;
+
+/// What a line is answered at a moment, in microseconds since 1970, over the tables as they are, and
+/// the entry of its change, which may come next. A change that is too large for the log is not yet
+/// refused.
+pub fn planned(
+    alloc: Global,
+    present: &Present,
+    line: &[u8],
+    moment: u64,
+) -> Result<Plan, OutOfMemory>
+    requires not_before { present.now.floor ≤ moment }
+    requires not_past { moment ≤ last_moment }
+    ensures { IfOk result (λ plan. IsPlan plan present.now moment (reply_to present.now moment line.now)) }
+{
+    match read_envelope(alloc, line) {
+        Ok((method, value)) => asked_plan(alloc, present, method, &value, moment),
+        Err(LineRefusal::OutOfMemory) => Err(OutOfMemory),
+        Err(refusal) => Ok(Plan::refuses(envelope_refusal(refusal))),
+    }
+}
+
+fn envelope_refusal(refusal: LineRefusal) -> Refusal
+    ensures { result ≡ envelope_refusal refusal }
+{
+    match refusal {
+        LineRefusal::NotJson => Refusal::NotJson,
+        LineRefusal::BadEnvelope => Refusal::BadEnvelope,
+        LineRefusal::UnknownMethod => Refusal::UnknownMethod,
+        LineRefusal::OutOfMemory => Refusal::OutOfMemory,
+    }
+}
+
+fn asked_plan(
+    alloc: Global,
+    present: &Present,
+    method: Method,
+    value: &Value,
+    moment: u64,
+) -> Result<Plan, OutOfMemory>
+    requires not_before { present.now.floor ≤ moment }
+    requires not_past { moment ≤ last_moment }
+    ensures { IfOk result (λ plan. IsPlan plan present.now moment (asked_reply present.now moment (request_in method (view value.now)))) }
+{
+    match read_request(alloc, method, value) {
+        Ok(request) => request_plan(alloc, present, request, moment),
+        Err(RequestRefusal::OutOfMemory) => Err(OutOfMemory),
+        Err(refusal) => refusal_plan(alloc, refusal),
+    }
+}
+
+fn refusal_plan(alloc: Global, refusal: RequestRefusal) -> Result<Plan, OutOfMemory>
+    ensures { IfOk result (λ plan. (p : Present) (m : ℕ) → IsPlan plan p m (refused_by (request_refusal_line refusal))) }
+{
+    match refusal {
+        RequestRefusal::NotBuilt => Ok(Plan::refuses(Refusal::NotBuilt)),
+        RequestRefusal::Unsupported { name } => {
+            let line = unsupported_line(alloc, name.bytes())?;
+            Ok(Plan::Says(Answer::Lines(line)))
+        }
+        RequestRefusal::BadField { name } => {
+            let line = bad_field_line(alloc, name.bytes())?;
+            Ok(Plan::Says(Answer::Lines(line)))
+        }
+        RequestRefusal::BadName => Ok(Plan::refuses(Refusal::BadName)),
+        RequestRefusal::OutOfMemory => Err(OutOfMemory),
+    }
+}
+
+// One line for each method.
+fn request_plan(
+    alloc: Global,
+    present: &Present,
+    request: Request,
+    moment: u64,
+) -> Result<Plan, OutOfMemory>
+    requires order { HasOrder request }
+    requires not_before { present.now.floor ≤ moment }
+    requires not_past { moment ≤ last_moment }
+    ensures { IfOk result (λ plan. IsPlan plan present.now moment (request_reply present.now moment request)) }
+{
+    match request {
+        Request::CreateTable { name, families } => {
+            create_table(alloc, present, name, families, moment)
+        }
+        Request::MutateRow {
+            name,
+            key,
+            mutations,
+        } => mutate_row(alloc, present, &name, &key, mutations, moment),
+        Request::ReadRows { name } => read_rows(alloc, present, &name),
+    }
+}
