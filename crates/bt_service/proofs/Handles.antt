@@ -1,55 +1,68 @@
 -- A reply, written.
-use Rattle.std.proofs.Common.{◌≡◌, ℕ, List, [], ◌++◌, inl, inr, take, drop, refl, sym, subst, ◌∙◌, arith, take-append-drop}
+use Rattle.std.proofs.Common.{◌≡◌, ℕ, Bool, true, false, List, ◌++◌, take, drop, refl, sym, subst, arith, take-append-drop}
 use Rattle.std.proofs.lemmas.Bool.Decides.{nat_tests}
 use Rattle.std.specs.Prelude.{Result, Ok, Err, OnOk, OnErr}
-use Rattle.bt_base.specs.Counts.{Counts, counted, Risen}
-use Rattle.bt_outside.specs.Links.{Sent, LastGoes, Adds, AddsPart}
-use Rattle.bt_state.specs.State.{State}
-use Rattle.bt_service.specs.declared.answer.Answer.{Answer}
+use Rattle.bt_base.specs.Counts.{Counts, Risen, counted}
+use Rattle.bt_outside.specs.Links.{Adds, AddsPart, LastGoes, Sent}
+use Rattle.bt_outside.specs.declared.disk.Disk.{Ghosts}
+use Rattle.bt_replies.specs.Lines.{reply_to}
+use Rattle.bt_service.specs.Outcomes.{handled_by}
+use Rattle.bt_service.specs.Steps.{CountedBy, EndsIf, Made, Suits, Turned, WritesSo}
+use Rattle.bt_service.specs.Turns.{Given, GoesSo, IsGiven, IsReply, unless_too_large}
 use Rattle.bt_service.specs.declared.handled.Handled.{Handled}
-use Rattle.bt_service.specs.declared.handled.Handled.TheVariants.{Answered, LinkLost}
-use Rattle.bt_messages.specs.declared.refusal.Refusal.TheVariants.{OutOfMemory}
-use Rattle.bt_messages.specs.Requests.{request_of}
-use Rattle.bt_service.specs.declared.answer.Answer.TheVariants.{Refused}
-use Rattle.bt_service.specs.Replies.{IsReply, reply_to}
-use Rattle.bt_service.specs.Turns.{Answers}
-use Rattle.bt_service.specs.Answers.{IsAnswered, Replies, answer_bytes}
-use Rattle.bt_service.specs.Steps.{Turned, Counted}
-use Rattle.bt_service.proofs.Said.{said, said_part}
+use Rattle.bt_service.proofs.Said.{said_part}
+use Rattle.bt_state.specs.State.{State}
+use Rattle.bt_store.specs.Stands.{Seen}
+use Rattle.bt_store.specs.declared.limits.Limits.{Limits}
 
 pub counted_risen : (old new : ℕ) → new ≡ counted old → Risen old new
 counted_risen old new is = grind (arith, nat_tests)
 
-pub counts : {T E : Type 0} (old new : ℕ) (w : Result T E) (h : Handled) → Counts old new w → OnOk w (h ≡ Answered) → OnErr w (h ≡ LinkLost) → Counted h old new
-counts old new (Ok x) h c aye nay = subst (λ (k : Handled). Counted k old new) (sym aye) (c.fine refl)
-counts old new (Err x) h c aye nay = subst (λ (k : Handled). Counted k old new) (sym nay) (counted_risen old new (c.failed refl))
+suits : {T E : Type 0} (has_ended : Bool) (w : Result T E) (given : Given) → EndsIf has_ended given.how → OnOk w (given.is_cut ≡ false) → OnErr w (given.is_cut ≡ true) → Suits (handled_by has_ended w) given
+suits true w given ends fine cut = ends
+suits false (Ok x) given ends fine cut = (ends, fine)
+suits false (Err x) given ends fine cut = (ends, cut)
 
--- the answer was written in one piece
-pub turned : {T E : Type 0} (s new : State) (line : List ℕ) (m : ℕ) (answer : Answer) (text : List ℕ) (moment : ℕ) (sent new_sent : List Sent) → IsAnswered line m answer s new → text ≡ answer_bytes answer
-    → (w : Result T E) (h : Handled) → OnOk w (h ≡ Answered) → OnErr w (h ≡ LinkLost) → OnOk w (LastGoes (Adds text moment) sent new_sent) → OnErr w (LastGoes (AddsPart text moment) sent new_sent) → Turned h line m s new sent new_sent
-turned s new line m answer text moment sent new_sent a is (Ok x) h aye nay wrote part =
-    subst (λ (k : Handled). Turned k line m s new sent new_sent) (sym aye)
-    (text, a.records, subst (λ (out : List ℕ). Answers s line m out a.records) (sym is) a.answers, a.changed, said text moment sent new_sent wrote)
-turned s new line m answer text moment sent new_sent a is (Err x) h aye nay wrote part =
-    let piece = said_part text moment sent new_sent part in
-    let whole : answer_bytes answer ≡ take piece.0 text ++ drop piece.0 text = sym is ∙ sym (take-append-drop piece.0 text) in
-    subst (λ (k : Handled). Turned k line m s new sent new_sent) (sym nay)
-    (take piece.0 text, a.records, (drop piece.0 text, subst (λ (out : List ℕ). Answers s line m out a.records) whole a.answers), a.changed, piece.1)
+module _ {D : Type 0} (disk : Ghosts D) (limits : Limits) (s : State) (line : List ℕ) (m : ℕ) (old new : D) (store : Seen) (text : List ℕ) (has_ended : Bool)
+    (made : Made disk limits s (reply_to s.present m line) old new store text has_ended) where
+  -- what was given of it, where this was written
+  abbrev given_of : List ℕ → Bool → Given
+  given_of out is_cut = record {
+    reply = unless_too_large limits s.present (reply_to s.present m line);
+    how = made.how;
+    out = out;
+    is_cut = is_cut;
+    noted = disk.moment new;
+    records = made.records;
+  }
 
--- the reply to the line, whole
-pub answered_whole : (s new : State) (line : List ℕ) (m : ℕ) (answer : Answer) → Replies (reply_to s m (request_of line)) answer s new → IsAnswered line m answer s new
-unfolding IsReply
-answered_whole s new line m answer h = record {
-  records = (reply_to s m (request_of line)).records;
-  answers = record { reply = reply_to s m (request_of line); is_reply = refl; given = inl (record { said = h.lines; changed = refl }) };
-  changed = h.changed;
-}
+  is_reply : IsReply limits s line m (unless_too_large limits s.present (reply_to s.present m line))
+  unfolding IsReply
+  is_reply = refl
 
--- no memory, and no change
-pub answered_refused : (s new : State) (line : List ℕ) (m : ℕ) → new ≡ s → IsAnswered line m (Refused OutOfMemory) s new
-unfolding IsReply
-answered_refused s new line m is = record {
-  records = [];
-  answers = record { reply = reply_to s m (request_of line); is_reply = refl; given = inr (record { said = (0, refl); changed = refl }) };
-  changed = is;
-}
+  turned_so : (handled : Handled) (out : List ℕ) (is_cut : Bool) (sent new_sent : List Sent) (faults new_faults : ℕ) → IsGiven limits s line m (given_of out is_cut) → Suits handled (given_of out is_cut) → LastGoes (WritesSo is_cut out (disk.moment new)) sent new_sent
+      → CountedBy is_cut faults new_faults → Turned disk handled limits s line m old new store sent new_sent faults new_faults
+  turned_so handled out is_cut sent new_sent faults new_faults is_given suits written counts = record {
+    given = given_of out is_cut;
+    is_given = is_given;
+    suits = suits;
+    written = written;
+    noted = refl;
+    counted = counts;
+    leaves = made.leaves;
+    steps = made.steps;
+  }
+
+  -- the lines were written in one piece, or a prefix of them
+  pub turned : {T E : Type 0} (w : Result T E) (sent new_sent : List Sent) (faults new_faults : ℕ) → OnOk w (LastGoes (Adds text (disk.moment new)) sent new_sent) → OnErr w (LastGoes (AddsPart text (disk.moment new)) sent new_sent) → Counts faults new_faults w
+      → Turned disk (handled_by has_ended w) limits s line m old new store sent new_sent faults new_faults
+  turned (Ok x) sent new_sent faults new_faults wrote part counts =
+      turned_so (handled_by has_ended (Ok x)) text false sent new_sent faults new_faults (record { is_reply = is_reply; is_written = made.goes }) (suits has_ended (Ok x) (given_of text false) made.ends refl tt) wrote (counts.fine refl)
+  turned (Err x) sent new_sent faults new_faults wrote part counts =
+      let piece = said_part text (disk.moment new) sent new_sent part in
+      let whole : text ≡ take piece.0 text ++ drop piece.0 text = sym (take-append-drop piece.0 text) in
+      let goes : GoesSo made.how (unless_too_large limits s.present (reply_to s.present m line)) (take piece.0 text ++ drop piece.0 text) made.records =
+      subst (λ (out : List ℕ). GoesSo made.how (unless_too_large limits s.present (reply_to s.present m line)) out made.records) whole made.goes
+      in
+      turned_so (handled_by has_ended (Err x)) (take piece.0 text) true sent new_sent faults new_faults (record { is_reply = is_reply; is_written = (drop piece.0 text, goes) })
+      (suits has_ended (Err x) (given_of (take piece.0 text) true) made.ends tt refl) piece.1 (counted_risen faults new_faults (counts.failed refl))

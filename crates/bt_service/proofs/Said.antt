@@ -1,8 +1,8 @@
 -- What was said over a connection.
-use Rattle.std.proofs.Common.{◌≡◌, ◌⊎◌, ℕ, List, [], ◌∷◌, ◌++◌, take, refl, sym, ap, subst, ◌∙◌, append_assoc, inl, inr}
-use Rattle.std.proofs.lemmas.List.{append-nil}
-use Rattle.bt_outside.specs.Links.{Sent, LastGoes, Adds, AddsPart, Marks}
-use Rattle.bt_service.specs.Steps.{Says, Fails}
+use Rattle.std.proofs.Common.{◌≡◌, ◌⊎◌, ℕ, List, [], ◌∷◌, ◌++◌, length, take, refl, sym, ap, subst, ◌∙◌, inl, inr, arith, length-append}
+use Rattle.std.proofs.lemmas.List.{nil_from_length}
+use Rattle.bt_outside.specs.Links.{Sent, LastGoes, AddsPart}
+use Rattle.bt_service.specs.Steps.{CutsOff}
 
 pub goes_then : (first second both : Sent → Sent → Type 0) → ((a b c : Sent) → first a b → second b c → both a c) → (old mid new : List Sent) → LastGoes first old mid → LastGoes second mid new → LastGoes both old new
 goes_then first second both join old mid new f g before s is =
@@ -14,27 +14,6 @@ pub goes_as : (step other : Sent → Sent → Type 0) → ((a b : Sent) → step
 goes_as step other as_other old new f before s is =
     let one = f before s is in
     (one.0, one.1, as_other s one.0 one.2)
-
-pub says_then : (x y : List ℕ) (a b c : Sent) → Says x a b → Says y b c → Says (x ++ y) a c
-says_then x y a b c f g = record {
-  bytes = g.bytes ∙ ap (λ (l : List ℕ). l ++ y) f.bytes ∙ append_assoc a.bytes x y;
-  failed = g.failed ∙ f.failed;
-}
-
-pub fails_then : (x y : List ℕ) (a b c : Sent) → Says x a b → Fails y b c → Fails (x ++ y) a c
-fails_then x y a b c f g = record {
-  bytes = g.bytes ∙ ap (λ (l : List ℕ). l ++ y) f.bytes ∙ append_assoc a.bytes x y;
-  failed = g.failed;
-}
-
-pub quiet : (sent : List Sent) → LastGoes (Says []) sent sent
-quiet sent before c is = (c, is, record { bytes = sym (append-nil c.bytes); failed = refl })
-
-pub said : (text : List ℕ) (moment : ℕ) (old new : List Sent) → LastGoes (Adds text moment) old new → LastGoes (Says text) old new
-said text moment old new h = goes_as (Adds text moment) (Says text) (λ (a b : Sent) (x : Adds text moment a b). record { bytes = x.bytes; failed = x.failed }) old new h
-
-pub marked : (old new : List Sent) → LastGoes Marks old new → LastGoes (Fails []) old new
-marked old new h = goes_as Marks (Fails []) (λ (a b : Sent) (x : Marks a b). record { bytes = x.bytes ∙ sym (append-nil a.bytes); failed = x.failed }) old new h
 
 -- a list is empty, or has a last one
 last_of : (xs : List Sent) → (xs ≡ []) ⊎ ((before : List Sent) × (s : Sent) × (xs ≡ before ++ s ∷ []))
@@ -61,18 +40,33 @@ none_last : (before : List Sent) (s : Sent) → [] ≡ before ++ s ∷ [] → �
 none_last [] s h = cc
 none_last (x ∷ xs) s h = cc
 
-said_part_at : (text : List ℕ) (moment : ℕ) (old new : List Sent) → LastGoes (AddsPart text moment) old new → (old ≡ []) ⊎ ((before : List Sent) × (s : Sent) × (old ≡ before ++ s ∷ [])) → (n : ℕ) × LastGoes (Fails (take n text)) old new
+-- what adds nothing is nothing
+nothing_added : (old more new : List ℕ) → new ≡ old ++ more → new ≡ old → more ≡ []
+nothing_added old more new longer same = nil_from_length more (omega (arith, ap length (sym same ∙ longer), length-append old more))
+
+-- a prefix of the text was written, and the connection is marked
+cut_part : (text : List ℕ) (moment : ℕ) (a b : Sent) (h : AddsPart text moment a b) → CutsOff (take h.part.0 text) moment a b
+cut_part text moment a b h = record {
+  bytes = h.part.1;
+  notes = elim h.notes as (λ _. (b.notes ≡ a.notes ++ (length b.bytes, moment) ∷ []) ⊎ ((take h.part.0 text ≡ []) × (b.notes ≡ a.notes))) [
+    | inl noted ↦ inl noted
+    | inr none ↦ inr (nothing_added a.bytes (take h.part.0 text) b.bytes h.part.1 none.0, none.1)
+  ];
+  failed = h.failed;
+}
+
+said_part_at : (text : List ℕ) (moment : ℕ) (old new : List Sent) → LastGoes (AddsPart text moment) old new → (old ≡ []) ⊎ ((before : List Sent) × (s : Sent) × (old ≡ before ++ s ∷ [])) → (n : ℕ) × LastGoes (CutsOff (take n text) moment) old new
 said_part_at text moment old new h (inl none) = (0, λ before s is. absurd (none_last before s (sym none ∙ is)))
 said_part_at text moment old new h (inr one) =
     let t = h one.0 one.1 one.2 in
     let n = t.2.part.0 in
-    let fails : Fails (take n text) one.1 t.0 = record { bytes = t.2.part.1; failed = t.2.failed } in (
+    let cuts : CutsOff (take n text) moment one.1 t.0 = cut_part text moment one.1 t.0 t.2 in (
       n,
       λ before s is.
           let same = last_same one.0 before one.1 s (sym one.2 ∙ is) in
-          (t.0, t.1 ∙ ap (λ (l : List Sent). l ++ t.0 ∷ []) same.0, subst (λ (x : Sent). Fails (take n text) x t.0) same.1 fails),
+          (t.0, t.1 ∙ ap (λ (l : List Sent). l ++ t.0 ∷ []) same.0, subst (λ (x : Sent). CutsOff (take n text) moment x t.0) same.1 cuts),
     )
 
--- a prefix of the text was written, and the connection is marked
-pub said_part : (text : List ℕ) (moment : ℕ) (old new : List Sent) → LastGoes (AddsPart text moment) old new → (n : ℕ) × LastGoes (Fails (take n text)) old new
+-- the same of the last connection
+pub said_part : (text : List ℕ) (moment : ℕ) (old new : List Sent) → LastGoes (AddsPart text moment) old new → (n : ℕ) × LastGoes (CutsOff (take n text) moment) old new
 said_part text moment old new h = said_part_at text moment old new h (last_of old)

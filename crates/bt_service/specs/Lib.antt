@@ -1,4 +1,3 @@
-pub mod Replies
 pub mod Turns
-pub mod Answers
 pub mod Steps
+pub mod Outcomes

@@ -1,35 +1,81 @@
--- What a line does to the links.
-use Rattle.std.specs.Prelude.{◌≡◌, ℕ, List, ◌++◌, true, Option}
+-- What a line does to the links, the store and the disk.
+use Rattle.std.specs.Prelude.{◌≡◌, ◌⊎◌, ℕ, Bool, true, false, List, [], ◌∷◌, ◌++◌, length, Option}
 use Rattle.bt_base.specs.Counts.{Risen}
-use Rattle.bt_outside.specs.Links.{Sent, LastGoes}
-use Rattle.bt_state.specs.State.{State, Event, after_records}
+use Rattle.bt_crash.specs.Changes.{StepsThrough}
+use Rattle.bt_outside.specs.Links.{Adds, LastGoes, Sent}
+use Rattle.bt_outside.specs.declared.disk.Disk.{Ghosts}
+use Rattle.bt_replies.specs.Replies.{Reply}
+use Rattle.bt_service.specs.Turns.{Given, GoesOn, GoesSo, How, ended, refused_on_the_way, whole, IsGiven, tried, tried_by, unless_too_large}
 use Rattle.bt_service.specs.declared.handled.Handled.{Handled}
-use Rattle.bt_service.specs.declared.handled.Handled.TheVariants.{Answered, LinkLost}
-use Rattle.bt_service.specs.Turns.{Answers, AnswersPart}
+use Rattle.bt_service.specs.declared.handled.Handled.TheVariants.{Answered, DiskEnded, LinkLost}
+use Rattle.bt_state.specs.State.{Event, State, after_record, after_records}
+use Rattle.bt_store.specs.Held.{HoldsState}
+use Rattle.bt_store.specs.Stands.{Seen, Stands}
+use Rattle.bt_store.specs.declared.limits.Limits.{Limits}
 
--- new is old with this text
-pub record Says (text : List ℕ) (old new : Sent) : Type 0 where
-  pub bytes : new.bytes ≡ old.bytes ++ text
-  pub failed : new.failed ≡ old.failed
+-- ---- links
 
--- new is old with this text, and marked as failed
-pub record Fails (text : List ℕ) (old new : Sent) : Type 0 where
+-- new is old with this text, and marked as failed; where there is a text, the moment is noted
+pub record CutsOff (text : List ℕ) (moment : ℕ) (old new : Sent) : Type 0 where
   pub bytes : new.bytes ≡ old.bytes ++ text
+  pub notes : (new.notes ≡ old.notes ++ (length new.bytes, moment) ∷ []) ⊎ ((text ≡ []) × (new.notes ≡ old.notes))
   pub failed : new.failed ≡ true
 
--- the line was answered, or a prefix of an answer was written to a connection that is marked as failed
-abbrev pub Turned : Handled → List ℕ → ℕ → State → State → List Sent → List Sent → Type 0
-Turned Answered line m s new sent new_sent =
-    (out : List ℕ) × (records : List (List Event)) × Answers s line m out records × (new ≡ after_records s records) × LastGoes (Says out) sent new_sent
-Turned LinkLost line m s new sent new_sent =
-    (out : List ℕ) × (records : List (List Event)) × AnswersPart s line m out records × (new ≡ after_records s records) × LastGoes (Fails out) sent new_sent
+abbrev pub WritesSo : Bool → List ℕ → ℕ → Sent → Sent → Type 0
+WritesSo false text moment old new = Adds text moment old new
+WritesSo true text moment old new = CutsOff text moment old new
 
--- the links' faults rose where the link was lost, and stayed where it was not
-abbrev pub Counted : Handled → ℕ → ℕ → Type 0
-Counted Answered old new = new ≡ old
-Counted LinkLost old new = Risen old new
+abbrev pub Writes : Given → Sent → Sent → Type 0
+Writes g old new = WritesSo g.is_cut g.out g.noted old new
+
+-- the links' faults rose where the link failed, and stayed where it did not
+abbrev pub CountedBy : Bool → ℕ → ℕ → Type 0
+CountedBy false old new = new ≡ old
+CountedBy true old new = Risen old new
 
 -- the same connections are left, and the same of the one at hand
 pub record KeepsConnections (left new_left : List (List ℕ)) (at_hand new_at_hand : Option (List ℕ)) : Type 0 where
   pub same_left : new_left ≡ left
   pub same_at_hand : new_at_hand ≡ at_hand
+
+-- ---- store and disk
+
+-- the store stands for the state; where the disk failed, the disk reads as the state
+abbrev pub Leaves : {D : Type 0} → Ghosts D → How → Seen → State → D → Type 0
+Leaves disk whole store s now = Stands store s (disk.held now) (disk.may_leave now)
+Leaves disk refused_on_the_way store s now = Stands store s (disk.held now) (disk.may_leave now)
+Leaves disk ended store s now = HoldsState s (disk.held now)
+
+-- the run ends exactly so
+abbrev pub EndsIf : Bool → How → Type 0
+EndsIf true how = how ≡ ended
+EndsIf false how = GoesOn how
+
+-- a reply's change was made, as far as it goes, and these are the lines to be written
+pub record Made {D : Type 0} (disk : Ghosts D) (limits : Limits) (s : State) (r : Reply) (old new : D) (store : Seen) (lines : List ℕ) (has_ended : Bool) : Type 0 where
+  pub how : How
+  pub records : List (List Event)
+  pub goes : GoesSo how (unless_too_large limits s.present r) lines records
+  pub ends : EndsIf has_ended how
+  pub leaves : Leaves disk how store (after_records s records) new
+  -- a crash at each moment finds the state after the first ones of these records
+  pub steps : StepsThrough disk HoldsState after_record s (tried_by how (unless_too_large limits s.present r).records records) old new
+
+-- ---- a line
+
+abbrev pub Suits : Handled → Given → Type 0
+Suits Answered g = GoesOn g.how × (g.is_cut ≡ false)
+Suits LinkLost g = GoesOn g.how × (g.is_cut ≡ true)
+Suits DiskEnded g = g.how ≡ ended
+
+-- what came of a line at a moment, in this state
+pub record Turned {D : Type 0} (disk : Ghosts D) (handled : Handled) (limits : Limits) (s : State) (line : List ℕ) (m : ℕ) (old new : D) (store : Seen) (sent new_sent : List Sent) (faults new_faults : ℕ) : Type 0 where
+  pub given : Given
+  pub is_given : IsGiven limits s line m given
+  pub suits : Suits handled given
+  pub written : LastGoes (Writes given) sent new_sent
+  pub noted : given.noted ≡ disk.moment new
+  pub counted : CountedBy given.is_cut faults new_faults
+  pub leaves : Leaves disk given.how store (after_records s given.records) new
+  -- a crash at each moment finds the state after the first ones of these records
+  pub steps : StepsThrough disk HoldsState after_record s (tried given) old new

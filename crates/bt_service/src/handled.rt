@@ -1,10 +1,15 @@
 //! A line, handled.
-ghost use Rattle.std.specs.Prelude.{◌≡◌, IsSome, OnOk, OnErr};
-ghost use Rattle.bt_service.specs.Steps.{Turned, Counted, KeepsConnections};
+ghost use Rattle.std.specs.Prelude.{◌≡◌, ◌≤◌, IsSome};
+ghost use Rattle.bt_base.specs.Counts.{Risen};
+ghost use Rattle.bt_entry.specs.Grammar.{last_moment};
+ghost use Rattle.bt_service.specs.Outcomes.{DiskCounted, IsUsableAfter, LinksCounted, handled_by};
+ghost use Rattle.bt_service.specs.Steps.{KeepsConnections, Turned};
+ghost use Rattle.bt_state.specs.State.{State};
+ghost use Rattle.bt_store.specs.Stands.{Stands};
 
-use crate::requests::answered;
+use crate::outcome::{Outcome, made};
 use bt_outside::{Disk, LinkFailed, Links};
-use bt_state::Tables;
+use bt_store::Store;
 use std::alloc::Global;
 
 /// What came of a line.
@@ -15,34 +20,50 @@ pub enum Handled {
     /// The link failed, perhaps in the middle of the reply. The change of the line, if it has
     /// one, is made.
     LinkLost,
+    /// A write, a cut or a sync of the disk failed: the change of the line is there or not, and the
+    /// store is only dropped. The link may have failed too.
+    DiskEnded,
 }
 
-fn outcome(written: Result<(), LinkFailed>) -> Handled
-    ensures ok { OnOk written (result ≡ Handled.Answered) }
-    ensures err { OnErr written (result ≡ Handled.LinkLost) }
+/// Answers a line at the moment used for it, in microseconds since 1970. Its change is on the disk
+/// before its reply is written. Want of memory is answered too, by a constant line with code 8, and
+/// changes nothing.
+pub fn handle<D: Disk, L: Links<D>>(
+    alloc: Global,
+    store: &mut Store,
+    disk: &mut D,
+    line: &[u8],
+    moment: u64,
+    links: &mut L,
+) -> Handled
+    requires at_hand { L.tells → IsSome (L.at_hand links.old) }
+    requires stands { D.tells → (s : State) × Stands store.old s (D.held disk.old) (D.may_leave disk.old) }
+    requires not_before { store.old.present.floor ≤ moment }
+    requires not_past { moment ≤ last_moment }
+    ensures turn { D.tells → L.tells → (s : State) → Stands store.old s (D.held disk.old) (D.may_leave disk.old) → Turned D.Disk result store.old.limits s line.now moment disk.old disk.new store.new (L.sent links.old) (L.sent links.new) (L.faults links.old) (L.faults links.new) }
+    ensures usable { D.tells → IsUsableAfter D.Disk result store.new disk.new }
+    ensures keeps { L.tells → KeepsConnections (L.left links.old) (L.left links.new) (L.at_hand links.old) (L.at_hand links.new) }
+    ensures limits { store.new.limits ≡ store.old.limits }
+
+    // When each answer comes.
+    ensures link_lost { result ≡ Handled.LinkLost → Risen (L.faults links.old) (L.faults links.new) }
+    ensures disk { DiskCounted D.Disk result disk.old disk.new }
+    ensures links { LinksCounted result (L.faults links.old) (L.faults links.new) }
+    ensures next_faults { L.next_faults links.new ≡ L.next_faults links.old }
 {
+    let outcome = made(alloc, store, disk, line, moment);
+    let written = links.write(outcome.answer.bytes(), disk);
+    came_of(&outcome, written)
+}
+
+fn came_of(outcome: &Outcome, written: Result<(), LinkFailed>) -> Handled
+    ensures { result ≡ handled_by outcome.now.has_ended written }
+{
+    if outcome.has_ended {
+        return Handled::DiskEnded;
+    }
     match written {
         Ok(()) => Handled::Answered,
         Err(_) => Handled::LinkLost,
     }
-}
-
-/// Answers a line at the moment used for it, in microseconds since 1970. Want of memory is
-/// answered too, by a constant line with code 8, and changes nothing.
-pub fn handle<D: Disk, L: Links<D>>(
-    alloc: Global,
-    tables: &mut Tables,
-    line: &[u8],
-    moment: u64,
-    disk: &D,
-    links: &mut L,
-) -> Handled
-    requires { L.tells → IsSome (L.at_hand links.old) }
-    ensures turn { L.tells → Turned result line.now moment tables.old tables.new (L.sent links.old) (L.sent links.new) }
-    ensures keeps { L.tells → KeepsConnections (L.left links.old) (L.left links.new) (L.at_hand links.old) (L.at_hand links.new) }
-    ensures faults { Counted result (L.faults links.old) (L.faults links.new) }
-    ensures next_faults { L.next_faults links.new ≡ L.next_faults links.old }
-{
-    let answer = answered(alloc, tables, line, moment);
-    outcome(links.write(answer.bytes(), disk))
 }

@@ -1,11 +1,7 @@
 //! One request line, one reply: what a line is answered, and what it changes.
 #![tactic(auto)]
 
-mod answer;
-mod create_table;
 mod handled;
-mod mutate_row;
-mod read_rows;
-mod requests;
+mod outcome;
 
 pub use handled::{Handled, handle};

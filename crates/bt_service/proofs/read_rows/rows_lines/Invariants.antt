@@ -1,7 +1,0 @@
-use Rattle.std.proofs.Common.{◌≡◌, []}
-use Rattle.bt_messages.specs.Chunks.{with_rows}
-use Rattle.bt_service.proofs.read_rows.rows_lines.Given as goal
-
--- the rows so far, and those that are left
-abbrev pub invariant-loop-key : goal.invariant-loop-key
-invariant-loop-key l = with_rows l.reply l.key-iterator ≡ with_rows [] l.rows.entries

@@ -1,0 +1,93 @@
+//! A plan, carried out.
+ghost use Rattle.std.specs.Prelude.{◌≡◌, ◌≤◌};
+ghost use Rattle.bt_entry.specs.Grammar.{last_moment};
+ghost use Rattle.bt_replies.specs.Lines.{reply_to};
+ghost use Rattle.bt_replies.specs.Plans.{IsPlan, answer_bytes};
+ghost use Rattle.bt_replies.specs.Replies.{Reply};
+ghost use Rattle.bt_service.specs.Outcomes.{FailsIf, IsUsable, outcome_of, says};
+ghost use Rattle.bt_service.specs.Steps.{Made};
+ghost use Rattle.bt_state.specs.State.{State};
+ghost use Rattle.bt_store.specs.Stands.{Stands};
+
+use bt_base::OutOfMemory;
+use bt_entry::Entry;
+use bt_messages::Refusal;
+use bt_outside::Disk;
+use bt_replies::{Answer, Plan, planned};
+use bt_store::{Store, StoreFault};
+use std::alloc::Global;
+
+/// What is to be written for a line, and whether the disk failed, so that the run ends.
+#[derive(Drop)]
+pub(crate) struct Outcome {
+    pub(crate) answer: Answer,
+    pub(crate) has_ended: bool,
+}
+
+/// Makes the change of a line, if it has one.
+pub(crate) fn made<D: Disk>(
+    alloc: Global,
+    store: &mut Store,
+    disk: &mut D,
+    line: &[u8],
+    moment: u64,
+) -> Outcome
+    requires stands { D.tells → (s : State) × Stands store.old s (D.held disk.old) (D.may_leave disk.old) }
+    requires not_before { store.old.present.floor ≤ moment }
+    requires not_past { moment ≤ last_moment }
+    ensures made { D.tells → (s : State) → Stands store.old s (D.held disk.old) (D.may_leave disk.old) → Made D.Disk store.old.limits s (reply_to store.old.present moment line.now) disk.old disk.new store.new (answer_bytes result.answer) result.has_ended }
+    ensures usable { D.tells → IsUsable D.Disk result.has_ended store.new disk.new }
+    ensures counted { FailsIf D.Disk result.has_ended disk.old disk.new }
+    ensures limits { store.new.limits ≡ store.old.limits }
+{
+    match planned(alloc, store.present(), line, moment) {
+        Ok(plan) => carried_out(alloc, store, disk, plan, moment),
+        Err(OutOfMemory) => said(Answer::Refused(Refusal::OutOfMemory)),
+    }
+}
+
+fn said(answer: Answer) -> Outcome
+    ensures { result ≡ says answer }
+{
+    Outcome {
+        answer,
+        has_ended: false,
+    }
+}
+
+fn carried_out<D: Disk>(
+    alloc: Global,
+    store: &mut Store,
+    disk: &mut D,
+    plan: Plan,
+    moment: u64,
+) -> Outcome
+    requires stands { D.tells → (s : State) × Stands store.old s (D.held disk.old) (D.may_leave disk.old) }
+    requires plan { (r : Reply) × IsPlan plan store.old.present moment r }
+    ensures made { D.tells → (s : State) → Stands store.old s (D.held disk.old) (D.may_leave disk.old) → (r : Reply) → IsPlan plan store.old.present moment r → Made D.Disk store.old.limits s r disk.old disk.new store.new (answer_bytes result.answer) result.has_ended }
+    ensures usable { D.tells → IsUsable D.Disk result.has_ended store.new disk.new }
+    ensures counted { FailsIf D.Disk result.has_ended disk.old disk.new }
+    ensures limits { store.new.limits ≡ store.old.limits }
+{
+    match plan {
+        Plan::Says(answer) => said(answer),
+        Plan::Changes { entry, answer } => {
+            committed(store.commit(alloc, disk, entry, moment), answer)
+        }
+    }
+}
+
+// What is said once a commit has answered so. No commit finds damage.
+fn committed(commit: Result<(), StoreFault>, answer: Answer) -> Outcome
+    ensures { result ≡ outcome_of commit answer }
+{
+    match commit {
+        Ok(()) => said(answer),
+        Err(StoreFault::TooLarge { .. }) => said(Answer::Refused(Refusal::ChangeTooLarge)),
+        Err(StoreFault::OutOfMemory) => said(Answer::Refused(Refusal::OutOfMemory)),
+        Err(StoreFault::DiskFailed | StoreFault::Damaged { .. }) => Outcome {
+            answer: Answer::Refused(Refusal::DiskFailed),
+            has_ended: true,
+        },
+    }
+}
