@@ -7,7 +7,9 @@ use Rattle.std.proofs.lemmas.List.{length-take}
 use Rattle.std.proofs.lemmas.List.Sums.{prefix_len-le-length}
 use Rattle.std.proofs.lemmas.List.Splits.{slice_split-cons_no, length-slice_split}
 use Rattle.bt_top.specs.Lines.{lines_in, ending_in, lines_of_pieces, ending_of_pieces, is_blank, is_lf, line_too_long, connection_too_long, line_not_ended}
-use Rattle.bt_top.specs.Steps.{Divides, BeginsWith, heard}
+use Rattle.bt_service.specs.declared.handled.Handled.{Handled}
+use Rattle.bt_service.specs.declared.handled.Handled.TheVariants.{Answered, DiskEnded, LinkLost}
+use Rattle.bt_top.specs.Steps.{Divides, Divided, BeginsWith, IsStopped, heard}
 
 -- the stream is cut at the first LF of what was read
 cut_at : (b : Bool) (x : ℕ) (xs future : List ℕ) → is_lf x ≡ b → position_or_len is_lf (x ∷ xs) < suc (length xs)
@@ -103,6 +105,17 @@ divides_then most a b c ls ms f g = record {
 
 pub begins_then : (most : ℕ) (a b c : List ℕ) (ls ms : List (List ℕ)) → Divides most a b ls → Divides most b c ms → BeginsWith most a (ls ++ ms)
 begins_then most a b c ls ms f g future = (lines_in most (c ++ future), (divides_then most a b c ls ms f g).next_lines future)
+
+pub stopped_as : (handled : Handled) → (handled ≡ Answered → ⊥) → IsStopped handled
+stopped_as Answered none = none refl
+stopped_as LinkLost none = tt
+stopped_as DiskEnded none = tt
+
+-- the lines up to one at which it stopped
+pub divided_then : (most : ℕ) (a b c : List ℕ) (ls ms : List (List ℕ)) (handled : Handled) (rest : List ℕ) → IsStopped handled → Divides most a b ls → Divides most b c ms → Divided handled most a rest (ls ++ ms)
+divided_then most a b c ls ms Answered rest stop f g = absurd stop
+divided_then most a b c ls ms LinkLost rest stop f g = begins_then most a b c ls ms f g
+divided_then most a b c ls ms DiskEnded rest stop f g = begins_then most a b c ls ms f g
 
 -- a piece that is longer than the limit, however it goes on
 long_lines : (most : ℕ) (p : List ℕ) (qs : List (List ℕ)) → most < length p → lines_of_pieces most (p ∷ qs) ≡ []

@@ -1,6 +1,9 @@
 pub mod Buffers
+pub mod Counted
+pub mod Survivals
 pub mod Trails
 pub mod Divisions
 pub mod Readers
 pub mod Sessions
+pub mod Endings
 pub mod Searches

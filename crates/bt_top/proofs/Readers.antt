@@ -1,179 +1,41 @@
 -- A connection, as far as it was read.
-use Rattle.std.proofs.Common.{◌≡◌, ◌≤◌, ℕ, ◌+◌, ◌-◌, List, [], ◌∷◌, ◌++◌, length, take, drop, map, refl, sym, ap, subst, ◌∙◌, arith, append_assoc, length-append, Option, Some, None, Bool, true, false, cond, take-append-drop, zero, suc, ◌<◌, ◌⊎◌, inl, inr}
-use Rattle.std.specs.Prelude.{IsSome}
+use Rattle.std.proofs.Common.{◌≡◌, ◌≤◌, ◌<◌, ◌⊎◌, inl, inr, zero, suc, ℕ, ◌+◌, ◌-◌, List, [], ◌∷◌, ◌++◌, length, take, drop, map, refl, sym, ap, subst, ◌∙◌, arith, append_assoc, length-append, Option, Some, None, Bool, true, false, cond, take-append-drop}
+use Rattle.std.specs.Prelude.{IsSome, Result, Ok, Err, OnOk, OnErr, leb}
 use Rattle.std.specs.List.{position}
 use Rattle.std.proofs.lemmas.Bool.Decides.{nat_tests}
-use Rattle.bt_top.proofs.Divisions.{at_rest, too_long, rest_ending}
-use Rattle.std.specs.Prelude.{Result, Ok, Err, OnOk, OnErr, leb}
-use Rattle.std.specs.List.{flat_map}
 use Rattle.std.proofs.lemmas.List.{append-nil}
-use Rattle.bt_base.specs.Counts.{Counts}
-use Rattle.bt_outside.specs.Links.{Sent, LastGoes, Adds, AddsPart}
-use Rattle.bt_state.specs.State.{State, after_records}
-use Rattle.bt_top.specs.declared.limits.Limits.{Limits}
-use Rattle.bt_top.specs.Lines.{lines_in, ending_in, lines_of_connection, ending_of_connection, is_lf, is_blank, line_too_long, connection_too_long, line_not_ended}
-use Rattle.bt_service.specs.Turns.{Turn, records_of}
-use Rattle.bt_top.specs.Runs.{closed, unread, lost, cut}
-use Rattle.bt_base.specs.Counts.{Risen}
-use Rattle.bt_service.specs.Steps.{Says, Fails}
-use Rattle.bt_top.specs.Steps.{Went, WentLost, Divides, BeginsWith, Talked}
-use Rattle.bt_top.proofs.Buffers.{take_past}
-use Rattle.bt_service.proofs.Said.{goes_then, says_then, fails_then, said, said_part}
+use Rattle.bt_base.specs.Counts.{Counts, Risen}
+use Rattle.bt_crash.proofs.Chains.{OnlyNow}
+use Rattle.bt_outside.specs.Links.{Adds, AddsPart, LastGoes, Marks, Sent, fresh}
+use Rattle.bt_outside.specs.declared.disk.Disk.{Ghosts}
+use Rattle.bt_service.specs.Steps.{CountedBy, CutsOff, Leaves}
+use Rattle.bt_service.specs.Turns.{How, Turn, ended, records_of, refused_on_the_way, whole}
 use Rattle.bt_service.proofs.Handles.{counted_risen}
-use Rattle.bt_top.proofs.Trails.{went_none, went_then, lost_then}
+use Rattle.bt_service.proofs.Said.{goes_as, said_part}
+use Rattle.bt_state.specs.State.{Event, State, after_records}
+use Rattle.bt_store.specs.Stands.{Seen, Stands}
+use Rattle.bt_store.specs.declared.limits.Limits.{Limits}
+use Rattle.bt_top.specs.Crashes.{Survives}
+use Rattle.bt_top.specs.Lines.{connection_too_long, ending_in, ending_of_connection, is_blank, is_lf, line_not_ended, line_too_long, lines_in, lines_of_connection}
+use Rattle.bt_top.specs.Runs.{EndsSo, IsPrefix, Last, closed, cut, ending_out, ends_run, has_ended, has_failed, last_noted, last_tried, notes_from, out_of, stopped, stopped_of, unread}
+use Rattle.bt_top.specs.Steps.{BeginsWith, Divides, LeavesIf, Talked, Went, WentStopped}
+use Rattle.bt_top.proofs.Buffers.{take_past}
+use Rattle.bt_top.proofs.Divisions.{at_rest, rest_ending, too_long}
+use Rattle.bt_top.proofs.Survivals.{Sooner}
+use Rattle.bt_top.proofs.Trails.{stopped_then, went_none, went_then}
 
-abbrev pub limits_of : ℕ → ℕ → Limits
-limits_of most limit = record { line = most; connection = limit }
-
-pub record Reached (most limit : ℕ) (s now : State) (bytes : List ℕ) (hand : Option (List ℕ)) (text : List ℕ) (count : ℕ) (sent new_sent : List Sent) (told new_told : List ℕ) : Type 0 where
+-- So many of its bytes were read, and the lines in them had their turns, but for this text.
+pub record Reached {D : Type 0} (disk : Ghosts D) (limits : Limits) (s : State) (bytes : List ℕ) (hand : Option (List ℕ)) (text : List ℕ) (count : ℕ) (store : Seen) (old now : D) (sent new_sent : List Sent) (told new_told : List ℕ) (faults new_faults : ℕ) : Type 0 where
   pub lines : List (List ℕ)
   pub rest : List ℕ
   pub at_hand : hand ≡ Some rest
-  pub went : Went s now sent new_sent told new_told lines
-  pub of_lines : lines_of_connection (limits_of most limit) bytes ≡ lines ++ lines_in most (text ++ take (limit - count) rest)
-  pub of_ending : ending_of_connection (limits_of most limit) bytes ≡ ending_in most (leb limit (length bytes)) (text ++ take (limit - count) rest)
+  pub went : Went disk limits s store old now sent new_sent told new_told faults new_faults lines
+  pub of_lines : lines_of_connection limits bytes ≡ lines ++ lines_in limits.line (text ++ take (limits.connection - count) rest)
+  pub of_ending : ending_of_connection limits bytes ≡ ending_in limits.line (leb limits.connection (length bytes)) (text ++ take (limits.connection - count) rest)
   pub counted : count + length rest ≡ length bytes
-
-pub reached_start : (most limit : ℕ) (s : State) (bytes : List ℕ) (hand : Option (List ℕ)) (sent : List Sent) (told : List ℕ) → hand ≡ Some bytes → Reached most limit s s bytes hand [] 0 sent sent told told
-reached_start most limit s bytes hand sent told is =
-    let same : limit ≡ limit - 0 = omega arith in
-    record {
-      lines = [];
-      rest = bytes;
-      at_hand = is;
-      went = went_none s sent told;
-      of_lines = ap (λ (k : ℕ). lines_in most (take k bytes)) same;
-      of_ending = ap (λ (k : ℕ). ending_in most (leb limit (length bytes)) (take k bytes)) same;
-      counted = omega arith;
-    }
 
 same_some : (x y : List ℕ) → Some x ≡ Some y → x ≡ y
 same_some x y h = ap (λ (o : Option (List ℕ)). elim o as (λ _. List ℕ) [ None ↦ x | Some z ↦ z ]) h
-
--- some bytes more were read
-pub reached_read : (most limit : ℕ) (s now : State) (bytes : List ℕ) (hand new_hand : Option (List ℕ)) (text new_text : List ℕ) (count new_count n : ℕ) (sent sent1 new_sent : List Sent) (told new_told : List ℕ) (got more : List ℕ)
-    → Reached most limit s now bytes hand text count sent sent1 told new_told → new_sent ≡ sent1 → count ≤ limit → n ≤ limit - count → hand ≡ Some (got ++ more) → new_hand ≡ Some more → length got ≡ n → new_text ≡ text ++ got → new_count ≡ count + n
-    → Reached most limit s now bytes new_hand new_text new_count sent new_sent told new_told
-reached_read most limit s now bytes hand new_hand text new_text count new_count n sent sent1 new_sent told new_told got more r quiet within fits is new_is size t k =
-    let rest : r.rest ≡ got ++ more = same_some r.rest (got ++ more) (sym r.at_hand ∙ is) in
-    let future : text ++ take (limit - count) r.rest ≡ new_text ++ take (limit - new_count) more =
-    ap (λ (x : List ℕ). text ++ take (limit - count) x) rest
-    ∙ ap (λ (x : List ℕ). text ++ x) (take_past got more (limit - new_count) (limit - count) (omega (arith, within, fits, size, k)))
-    ∙ sym (append_assoc text got (take (limit - new_count) more)) ∙ ap (λ (x : List ℕ). x ++ take (limit - new_count) more) (sym t) in
-    record {
-      lines = r.lines;
-      rest = more;
-      at_hand = new_is;
-      went = subst (λ (x : List Sent). Went s now sent x told new_told r.lines) (sym quiet) r.went;
-      of_lines = r.of_lines ∙ ap (λ (x : List ℕ). r.lines ++ lines_in most x) future;
-      of_ending = r.of_ending ∙ ap (ending_in most (leb limit (length bytes))) future;
-      counted = omega (arith, r.counted, ap length rest, length-append got more, size, k);
-    }
-
--- some lines more had their turns
-pub reached_lines : (most limit : ℕ) (s mid now : State) (bytes : List ℕ) (hand new_hand : Option (List ℕ)) (text new_text : List ℕ) (count : ℕ) (sent sent1 sent2 : List Sent) (told told1 told2 : List ℕ) (lines : List (List ℕ))
-    → Reached most limit s mid bytes hand text count sent sent1 told told1 → new_hand ≡ hand → Went mid now sent1 sent2 told1 told2 lines → Divides most text new_text lines
-    → Reached most limit s now bytes new_hand new_text count sent sent2 told told2
-reached_lines most limit s mid now bytes hand new_hand text new_text count sent sent1 sent2 told told1 told2 lines r same went d =
-    let future = take (limit - count) r.rest in
-    record {
-      lines = r.lines ++ lines;
-      rest = r.rest;
-      at_hand = same ∙ r.at_hand;
-      went = went_then s mid now sent sent1 sent2 told told1 told2 r.lines lines r.went went;
-      of_lines = r.of_lines ∙ ap (λ (x : List (List ℕ)). r.lines ++ x) (d.next_lines future) ∙ sym (append_assoc r.lines lines (lines_in most (new_text ++ future)));
-      of_ending = r.of_ending ∙ d.ending (leb limit (length bytes)) future;
-      counted = r.counted;
-    }
-
-abbrev out_of : Turn → List ℕ
-out_of t = t.out
-
-says_written : (text : List ℕ) (sent new_sent : List Sent) → LastGoes (Says text) sent new_sent → (before : List Sent) (c : Sent) → sent ≡ before ++ c ∷ [] → c.failed ≡ false → (d : Sent) × (new_sent ≡ before ++ d ∷ []) × (d.bytes ≡ c.bytes ++ text) × (d.failed ≡ false)
-says_written text sent new_sent f before c is e =
-    let one = f before c is in
-    (one.0, one.1, one.2.bytes, one.2.failed ∙ e)
-
-fails_written : (text : List ℕ) (sent new_sent : List Sent) → LastGoes (Fails text) sent new_sent → (before : List Sent) (c : Sent) → sent ≡ before ++ c ∷ [] → c.failed ≡ false → (d : Sent) × (new_sent ≡ before ++ d ∷ []) × (d.bytes ≡ c.bytes ++ text) × (d.failed ≡ true)
-fails_written text sent new_sent f before c is e =
-    let one = f before c is in
-    (one.0, one.1, one.2.bytes, one.2.failed)
-
-module _ (most limit : ℕ) (s now : State) (bytes : List ℕ) (hand : Option (List ℕ)) (text : List ℕ) (count : ℕ) (sent sent1 sent2 : List Sent) (told told1 : List ℕ) (faults faults1 : ℕ) (r : Reached most limit s now bytes hand text count sent sent1 told told1) where
-  turns : List Turn
-  turns = r.went.turns
-
-  same_turns : r.went.turns ++ [] ≡ r.went.turns
-  same_turns = append-nil r.went.turns
-
-  -- nothing is written behind the lines
-  pub closed_quietly : lines_in most (text ++ take (limit - count) r.rest) ≡ [] → ending_in most (leb limit (length bytes)) (text ++ take (limit - count) r.rest) ≡ [] → sent2 ≡ sent1 → faults1 ≡ faults → Talked (limits_of most limit) s now bytes sent sent2 told told1 faults faults1
-  closed_quietly no_more nothing same calm = record {
-    talk = record { answered = r.went.turns; last = closed [] };
-    is_talk = record { answers = r.went.answers; ends = (r.of_lines ∙ ap (λ (x : List (List ℕ)). r.lines ++ x) no_more ∙ append-nil r.lines ∙ sym r.went.of_lines, sym (r.of_ending ∙ nothing)) };
-    state = r.went.state ∙ ap (λ (ts : List Turn). after_records s (records_of ts)) (sym same_turns);
-    read = r.went.read ∙ ap (λ (ts : List Turn). told ++ map (λ t. t.reading) ts) (sym same_turns);
-    written = says_written (flat_map out_of (r.went.turns ++ []) ++ []) sent sent2
-        (subst (λ (x : List ℕ). LastGoes (Says x) sent sent2) (sym (append-nil (flat_map out_of (r.went.turns ++ [])) ∙ ap (flat_map out_of) same_turns))
-        (subst (λ (x : List Sent). LastGoes (Says (flat_map out_of r.went.turns)) sent x) (sym same) r.went.written));
-    counted = calm;
-  }
-
-  -- a read failed
-  pub left_unread : LastGoes (Fails []) sent1 sent2 → Risen faults faults1 → Talked (limits_of most limit) s now bytes sent sent2 told told1 faults faults1
-  left_unread f rose = record {
-    talk = record { answered = r.went.turns; last = unread };
-    is_talk = record { answers = r.went.answers; ends = (lines_in most (text ++ take (limit - count) r.rest), r.of_lines ∙ ap (λ (x : List (List ℕ)). x ++ lines_in most (text ++ take (limit - count) r.rest)) (sym r.went.of_lines)) };
-    state = r.went.state ∙ ap (λ (ts : List Turn). after_records s (records_of ts)) (sym same_turns);
-    read = r.went.read ∙ ap (λ (ts : List Turn). told ++ map (λ t. t.reading) ts) (sym same_turns);
-    written = fails_written (flat_map out_of (r.went.turns ++ []) ++ []) sent sent2
-        (subst (λ (ts : List Turn). LastGoes (Fails (flat_map out_of ts ++ [])) sent sent2) (sym same_turns)
-        (goes_then (Says (flat_map out_of r.went.turns)) (Fails []) (Fails (flat_map out_of r.went.turns ++ [])) (fails_then (flat_map out_of r.went.turns) []) sent sent1 sent2 r.went.written f));
-    counted = rose;
-  }
-
-  -- a refusal is written behind the lines
-  pub refused_behind : {T E : Type 0} (ending text1 : List ℕ) (m : ℕ) (w : Result T E) → text1 ≡ ending → lines_in most (text ++ take (limit - count) r.rest) ≡ [] → ending_in most (leb limit (length bytes)) (text ++ take (limit - count) r.rest) ≡ ending
-      → OnOk w (LastGoes (Adds text1 m) sent1 sent2) → OnErr w (LastGoes (AddsPart text1 m) sent1 sent2) → Counts faults faults1 w → Talked (limits_of most limit) s now bytes sent sent2 told told1 faults faults1
-  refused_behind ending text1 m (Ok x) same no_more is wrote part counts = record {
-    talk = record { answered = r.went.turns; last = closed ending };
-    is_talk = record { answers = r.went.answers; ends = (r.of_lines ∙ ap (λ (x : List (List ℕ)). r.lines ++ x) no_more ∙ append-nil r.lines ∙ sym r.went.of_lines, sym (r.of_ending ∙ is)) };
-    state = r.went.state ∙ ap (λ (ts : List Turn). after_records s (records_of ts)) (sym same_turns);
-    read = r.went.read ∙ ap (λ (ts : List Turn). told ++ map (λ t. t.reading) ts) (sym same_turns);
-    written = says_written (flat_map out_of (r.went.turns ++ []) ++ ending) sent sent2
-        (subst (λ (ts : List Turn). LastGoes (Says (flat_map out_of ts ++ ending)) sent sent2) (sym same_turns)
-        (goes_then (Says (flat_map out_of r.went.turns)) (Says ending) (Says (flat_map out_of r.went.turns ++ ending)) (says_then (flat_map out_of r.went.turns) ending) sent sent1 sent2 r.went.written (said ending m sent1 sent2 (subst (λ (x : List ℕ). LastGoes (Adds x m) sent1 sent2) same wrote))));
-    counted = counts.fine refl;
-  }
-  refused_behind ending text1 m (Err x) same no_more is wrote part counts =
-      let piece = said_part ending m sent1 sent2 (subst (λ (x : List ℕ). LastGoes (AddsPart x m) sent1 sent2) same part) in
-      let some = take piece.0 ending in
-      record {
-        talk = record { answered = r.went.turns; last = cut some };
-        is_talk = record { answers = r.went.answers; ends = (r.of_lines ∙ ap (λ (x : List (List ℕ)). r.lines ++ x) no_more ∙ append-nil r.lines ∙ sym r.went.of_lines, (drop piece.0 ending, r.of_ending ∙ is ∙ sym (take-append-drop piece.0 ending))) };
-        state = r.went.state ∙ ap (λ (ts : List Turn). after_records s (records_of ts)) (sym same_turns);
-        read = r.went.read ∙ ap (λ (ts : List Turn). told ++ map (λ t. t.reading) ts) (sym same_turns);
-        written = fails_written (flat_map out_of (r.went.turns ++ []) ++ some) sent sent2
-            (subst (λ (ts : List Turn). LastGoes (Fails (flat_map out_of ts ++ some)) sent sent2) (sym same_turns)
-            (goes_then (Says (flat_map out_of r.went.turns)) (Fails some) (Fails (flat_map out_of r.went.turns ++ some)) (fails_then (flat_map out_of r.went.turns) some) sent sent1 sent2 r.went.written piece.1));
-        counted = counted_risen faults faults1 (counts.failed refl);
-      }
-
--- the link was lost while a line was answered
-pub lost_in : (most limit : ℕ) (s mid now : State) (bytes : List ℕ) (hand : Option (List ℕ)) (text : List ℕ) (count : ℕ) (sent sent1 sent2 : List Sent) (told told1 told2 : List ℕ) (faults faults1 : ℕ) (lines : List (List ℕ))
-    → Reached most limit s mid bytes hand text count sent sent1 told told1 → WentLost mid now sent1 sent2 told1 told2 lines → BeginsWith most text lines → Risen faults faults1 → Talked (limits_of most limit) s now bytes sent sent2 told told2 faults faults1
-lost_in most limit s mid now bytes hand text count sent sent1 sent2 told told1 told2 faults faults1 lines r w b rose =
-    let all = lost_then s mid now sent sent1 sent2 told told1 told2 r.lines lines r.went w in
-    let begins = b (take (limit - count) r.rest) in
-    record {
-      talk = record { answered = all.turns; last = lost all.lost };
-      is_talk = record { answers = all.answers; ends = ((begins.0, r.of_lines ∙ ap (λ (x : List (List ℕ)). r.lines ++ x) begins.1 ∙ sym (append_assoc r.lines lines begins.0) ∙ ap (λ (x : List (List ℕ)). x ++ begins.0) (sym all.of_lines)), all.part) };
-      state = all.state;
-      read = all.read;
-      written = fails_written (flat_map out_of (all.turns ++ all.lost ∷ []) ++ []) sent sent2
-          (subst (λ (x : List ℕ). LastGoes (Fails x) sent sent2) (sym (append-nil (flat_map out_of (all.turns ++ all.lost ∷ [])))) all.written);
-      counted = rose;
-    }
 
 take_nil : (n : ℕ) → ◌≡◌ {A = List ℕ} (take n []) []
 take_nil zero = refl
@@ -183,56 +45,223 @@ no_bytes : (xs : List ℕ) → length xs ≡ 0 → xs ≡ []
 no_bytes [] h = refl
 no_bytes (x ∷ xs) h = absurd (omega arith)
 
--- the connection is at its end
-at_end : (most limit : ℕ) (s now : State) (bytes : List ℕ) (hand : Option (List ℕ)) (text : List ℕ) (count : ℕ) (sent new_sent : List Sent) (told new_told : List ℕ) (r : Reached most limit s now bytes hand text count sent new_sent told new_told)
-    → position is_lf text ≡ None → length text ≤ most → count < limit → hand ≡ Some [] → (lines_in most (text ++ take (limit - count) r.rest) ≡ []) × (ending_in most (leb limit (length bytes)) (text ++ take (limit - count) r.rest) ≡ rest_ending false text)
-at_end most limit s now bytes hand text count sent new_sent told new_told r none fits less is =
-    let rest : r.rest ≡ [] = same_some r.rest [] (sym r.at_hand ∙ is) in
-    let all : text ++ take (limit - count) r.rest ≡ text = ap (λ (x : List ℕ). text ++ take (limit - count) x) rest ∙ ap (λ (x : List ℕ). text ++ x) (take_nil (limit - count)) ∙ append-nil text in
-    let size : length r.rest ≡ 0 = ap length rest in
-    let short : length bytes < limit = omega (arith, r.counted, size, less) in
-    let part : leb limit (length bytes) ≡ false = grind (arith, nat_tests) in
-    let facts = at_rest most false text none fits in
-    (ap (lines_in most) all ∙ facts.0, ap (ending_in most (leb limit (length bytes))) all ∙ ap (λ (b : Bool). ending_in most b text) part ∙ facts.1)
+-- ---- what is written behind the turns
 
-pub ended_blank : (most limit : ℕ) (s now : State) (bytes : List ℕ) (hand : Option (List ℕ)) (text new_text got : List ℕ) (count : ℕ) (sent sent1 sent2 : List Sent) (told told1 : List ℕ) (faults faults1 : ℕ) (r : Reached most limit s now bytes hand text count sent sent1 told told1)
-    → position is_lf text ≡ None → length text ≤ most → count < limit → hand ≡ Some [] → new_text ≡ text ++ got → length got ≡ 0 → is_blank new_text ≡ true → sent2 ≡ sent1 → faults1 ≡ faults → Talked (limits_of most limit) s now bytes sent sent2 told told1 faults faults1
-ended_blank most limit s now bytes hand text new_text got count sent sent1 sent2 told told1 faults faults1 r none fits less is t g blank same calm =
-    let facts = at_end most limit s now bytes hand text count sent sent1 told told1 r none fits less is in
-    let text_same : new_text ≡ text = t ∙ ap (λ (x : List ℕ). text ++ x) (no_bytes got g) ∙ append-nil text in
-    let blank_too : is_blank text ≡ true = sym (ap is_blank text_same) ∙ blank in
-    closed_quietly most limit s now bytes hand text count sent sent1 sent2 told told1 faults faults1 r facts.0 (facts.1 ∙ ap (λ (b : Bool). cond b [] line_not_ended) blank_too) same calm
+-- new is old with this text behind it; there may be further notes
+record EndsWith (out : List ℕ) (is_cut : Bool) (old new : Sent) : Type 0 where
+  bytes : new.bytes ≡ old.bytes ++ out
+  notes : IsPrefix old.notes new.notes
+  failed : old.failed ≡ false → new.failed ≡ is_cut
 
-pub ended_rest : {T E : Type 0} (text1 : List ℕ) → text1 ≡ line_not_ended → (most limit : ℕ) (s now : State) (bytes : List ℕ) (hand : Option (List ℕ)) (text new_text got : List ℕ) (count : ℕ) (sent sent1 mid sent2 : List Sent) (told told1 : List ℕ) (faults between faults1 m : ℕ) (w : Result T E) (r : Reached most limit s now bytes hand text count sent sent1 told told1)
-    → position is_lf text ≡ None → length text ≤ most → count < limit → hand ≡ Some [] → new_text ≡ text ++ got → length got ≡ 0 → is_blank new_text ≡ false → mid ≡ sent1 → between ≡ faults
-    → OnOk w (LastGoes (Adds text1 m) mid sent2) → OnErr w (LastGoes (AddsPart text1 m) mid sent2) → Counts between faults1 w → Talked (limits_of most limit) s now bytes sent sent2 told told1 faults faults1
-ended_rest text1 its most limit s now bytes hand text new_text got count sent sent1 mid sent2 told told1 faults between faults1 m w r none fits less is t g blank same calm wrote part counts =
-    let facts = at_end most limit s now bytes hand text count sent sent1 told told1 r none fits less is in
-    let text_same : new_text ≡ text = t ∙ ap (λ (x : List ℕ). text ++ x) (no_bytes got g) ∙ append-nil text in
-    let some : is_blank text ≡ false = sym (ap is_blank text_same) ∙ blank in
-    refused_behind most limit s now bytes hand text count sent sent1 sent2 told told1 faults faults1 r line_not_ended text1 m w its facts.0 (facts.1 ∙ ap (λ (b : Bool). cond b [] line_not_ended) some)
-    (subst (λ (x : List Sent). OnOk w (LastGoes (Adds text1 m) x sent2)) same wrote) (subst (λ (x : List Sent). OnErr w (LastGoes (AddsPart text1 m) x sent2)) same part) (subst (λ (x : ℕ). Counts x faults1 w) calm counts)
+ends_quietly : (c : Sent) → EndsWith [] false c c
+ends_quietly c = record { bytes = sym (append-nil c.bytes); notes = ([], sym (append-nil c.notes)); failed = λ fine. fine }
 
--- as many bytes as are allowed were read
-pub all_read : {T E : Type 0} (text1 : List ℕ) → text1 ≡ connection_too_long → (most limit : ℕ) (s now : State) (bytes : List ℕ) (hand : Option (List ℕ)) (text : List ℕ) (count : ℕ) (sent sent1 sent2 : List Sent) (told told1 : List ℕ) (faults between faults1 m : ℕ) (w : Result T E) (r : Reached most limit s now bytes hand text count sent sent1 told told1)
-    → position is_lf text ≡ None → length text ≤ most → limit ≤ count → count ≤ limit → between ≡ faults
-    → OnOk w (LastGoes (Adds text1 m) sent1 sent2) → OnErr w (LastGoes (AddsPart text1 m) sent1 sent2) → Counts between faults1 w → Talked (limits_of most limit) s now bytes sent sent2 told told1 faults faults1
-all_read text1 its most limit s now bytes hand text count sent sent1 sent2 told told1 faults between faults1 m w r none fits le within calm wrote part counts =
-    let zero_left : limit - count ≡ 0 = omega (arith, le, within) in
-    let all : text ++ take (limit - count) r.rest ≡ text = ap (λ (k : ℕ). text ++ take k r.rest) zero_left ∙ append-nil text in
-    let long : limit ≤ length bytes = omega (arith, r.counted, le, within) in
-    let full : leb limit (length bytes) ≡ true = grind (arith, nat_tests) in
-    let facts = at_rest most true text none fits in
-    refused_behind most limit s now bytes hand text count sent sent1 sent2 told told1 faults faults1 r connection_too_long text1 m w its (ap (lines_in most) all ∙ facts.0) (ap (ending_in most (leb limit (length bytes))) all ∙ ap (λ (b : Bool). ending_in most b text) full ∙ facts.1)
-    wrote part (subst (λ (x : ℕ). Counts x faults1 w) calm counts)
+ends_marked : (a b : Sent) → Marks a b → EndsWith [] true a b
+ends_marked a b m = record { bytes = m.bytes ∙ sym (append-nil a.bytes); notes = ([], m.notes ∙ sym (append-nil a.notes)); failed = λ fine. m.failed }
 
--- the line at hand is too long
-pub line_full : {T E : Type 0} (text1 : List ℕ) → text1 ≡ line_too_long → (most limit : ℕ) (s now : State) (bytes : List ℕ) (hand : Option (List ℕ)) (text : List ℕ) (count : ℕ) (sent sent1 sent2 : List Sent) (told told1 : List ℕ) (faults between faults1 m : ℕ) (w : Result T E) (r : Reached most limit s now bytes hand text count sent sent1 told told1)
-    → position is_lf text ≡ None → most < length text → between ≡ faults
-    → OnOk w (LastGoes (Adds text1 m) sent1 sent2) → OnErr w (LastGoes (AddsPart text1 m) sent1 sent2) → Counts between faults1 w → Talked (limits_of most limit) s now bytes sent sent2 told told1 faults faults1
-line_full text1 its most limit s now bytes hand text count sent sent1 sent2 told told1 faults between faults1 m w r none long calm wrote part counts =
-    let facts = too_long most (leb limit (length bytes)) text (take (limit - count) r.rest) none long in
-    refused_behind most limit s now bytes hand text count sent sent1 sent2 told told1 faults faults1 r line_too_long text1 m w its facts.0 facts.1 wrote part (subst (λ (x : ℕ). Counts x faults1 w) calm counts)
+ends_added : (text : List ℕ) (m : ℕ) (a b : Sent) → Adds text m a b → EndsWith text false a b
+ends_added text m a b x = record { bytes = x.bytes; notes = ((length b.bytes, m) ∷ [], x.notes); failed = λ fine. x.failed ∙ fine }
+
+cut_notes : (text : List ℕ) (m n : ℕ) (a b : List (ℕ × ℕ)) → (b ≡ a ++ (n, m) ∷ []) ⊎ ((text ≡ []) × (b ≡ a)) → IsPrefix a b
+cut_notes text m n a b (inl noted) = ((n, m) ∷ [], noted)
+cut_notes text m n a b (inr none) = ([], none.1 ∙ sym (append-nil a))
+
+ends_cut : (text : List ℕ) (m : ℕ) (a b : Sent) → CutsOff text m a b → EndsWith text true a b
+ends_cut text m a b x = record { bytes = x.bytes; notes = cut_notes text m (length b.bytes) a.notes b.notes x.notes; failed = λ fine. x.failed }
+
+-- ---- how a talk ends
+
+leaves_if : {D : Type 0} (disk : Ghosts D) (how : How) (has_ended : Bool) (store : Seen) (s : State) (now : D) → ends_run how ≡ has_ended → Leaves disk how store s now → LeavesIf disk has_ended store s now
+leaves_if disk whole false store s now ends l = l
+leaves_if disk whole true store s now ends l = absurd cc
+leaves_if disk refused_on_the_way false store s now ends l = l
+leaves_if disk refused_on_the_way true store s now ends l = absurd cc
+leaves_if disk ended false store s now ends l = absurd cc
+leaves_if disk ended true store s now ends l = l
+
+module _ {D : Type 0} (disk : Ghosts D) (limits : Limits) (s : State) (bytes : List ℕ) (old : D) (sent : List Sent) (told : List ℕ) (faults : ℕ) where
+  -- nothing was read
+  pub reached_start : (hand : Option (List ℕ)) (store : Seen) → OnlyNow disk old → Stands store s (disk.held old) (disk.may_leave old) → hand ≡ Some bytes → Reached disk limits s bytes hand [] 0 store old old sent sent told told faults faults
+  reached_start hand store law stands is =
+      let same : limits.connection ≡ limits.connection - 0 = omega arith in
+      record {
+        lines = [];
+        rest = bytes;
+        at_hand = is;
+        went = went_none disk limits s store old sent told faults law stands;
+        of_lines = ap (λ (k : ℕ). lines_in limits.line (take k bytes)) same;
+        of_ending = ap (λ (k : ℕ). ending_in limits.line (leb limits.connection (length bytes)) (take k bytes)) same;
+        counted = omega arith;
+      }
+
+  module _ (hand : Option (List ℕ)) (text : List ℕ) (count : ℕ) (store : Seen) (mid : D) (sent1 : List Sent) (told1 : List ℕ) (faults1 : ℕ) (r : Reached disk limits s bytes hand text count store old mid sent sent1 told told1 faults faults1) where
+    abbrev future : List ℕ
+    future = text ++ take (limits.connection - count) r.rest
+
+    -- some bytes more were read
+    pub reached_read : (new_hand : Option (List ℕ)) (new_text : List ℕ) (new_count n : ℕ) (new_sent : List Sent) (new_faults : ℕ) (got more : List ℕ) → new_sent ≡ sent1 → new_faults ≡ faults1 → count ≤ limits.connection → n ≤ limits.connection - count → hand ≡ Some (got ++ more) → new_hand ≡ Some more
+        → length got ≡ n → new_text ≡ text ++ got → new_count ≡ count + n → Reached disk limits s bytes new_hand new_text new_count store old mid sent new_sent told told1 faults new_faults
+    reached_read new_hand new_text new_count n new_sent new_faults got more quiet calm within fits is new_is size t k =
+        let rest : r.rest ≡ got ++ more = same_some r.rest (got ++ more) (sym r.at_hand ∙ is) in
+        let same : future ≡ new_text ++ take (limits.connection - new_count) more =
+        ap (λ (x : List ℕ). text ++ take (limits.connection - count) x) rest
+        ∙ ap (λ (x : List ℕ). text ++ x) (take_past got more (limits.connection - new_count) (limits.connection - count) (omega (arith, within, fits, size, k)))
+        ∙ sym (append_assoc text got (take (limits.connection - new_count) more)) ∙ ap (λ (x : List ℕ). x ++ take (limits.connection - new_count) more) (sym t) in
+        record {
+          lines = r.lines;
+          rest = more;
+          at_hand = new_is;
+          went = subst (λ (x : List Sent). Went disk limits s store old mid sent x told told1 faults new_faults r.lines) (sym quiet) (subst (λ (x : ℕ). Went disk limits s store old mid sent sent1 told told1 faults x r.lines) (sym calm) r.went);
+          of_lines = r.of_lines ∙ ap (λ (x : List ℕ). r.lines ++ lines_in limits.line x) same;
+          of_ending = r.of_ending ∙ ap (ending_in limits.line (leb limits.connection (length bytes))) same;
+          counted = omega (arith, r.counted, ap length rest, length-append got more, size, k);
+        }
+
+    -- some lines more had their turns
+    pub reached_lines : (its : Limits) (most : ℕ) (new_hand : Option (List ℕ)) (new_text : List ℕ) (new_store : Seen) (new : D) (new_sent : List Sent) (new_told : List ℕ) (new_faults : ℕ) (lines : List (List ℕ)) → its ≡ limits → most ≡ limits.line → Sooner disk new → new_hand ≡ hand
+        → Went disk its (after_records s (records_of r.went.turns)) new_store mid new sent1 new_sent told1 new_told faults1 new_faults lines → Divides most text new_text lines
+        → Reached disk limits s bytes new_hand new_text count new_store old new sent new_sent told new_told faults new_faults
+    reached_lines its most new_hand new_text new_store new new_sent new_told new_faults lines same_limits same_most sooner same its_went divides =
+        let rest = take (limits.connection - count) r.rest in
+        let state = after_records s (records_of r.went.turns) in
+        let went = subst (λ (l : Limits). Went disk l state new_store mid new sent1 new_sent told1 new_told faults1 new_faults lines) same_limits its_went in
+        let d = subst (λ (n : ℕ). Divides n text new_text lines) same_most divides in
+        record {
+          lines = r.lines ++ lines;
+          rest = r.rest;
+          at_hand = same ∙ r.at_hand;
+          went = went_then disk limits s store new_store old mid new sent sent1 new_sent told told1 new_told faults faults1 new_faults r.lines lines r.went sooner went;
+          of_lines = r.of_lines ∙ ap (λ (x : List (List ℕ)). r.lines ++ x) (d.next_lines rest) ∙ sym (append_assoc r.lines lines (lines_in limits.line (new_text ++ rest)));
+          of_ending = r.of_ending ∙ d.ending (leb limits.connection (length bytes)) rest;
+          counted = r.counted;
+        }
+
+    -- a further line stopped the connection
+    pub stopped_in : (has_ended : Bool) (its : Limits) (most : ℕ) (new_store : Seen) (new : D) (new_sent : List Sent) (new_told : List ℕ) (new_faults : ℕ) (lines : List (List ℕ)) → its ≡ limits → most ≡ limits.line → Sooner disk new
+        → WentStopped disk its (after_records s (records_of r.went.turns)) new_store mid new sent1 new_sent told1 new_told faults1 new_faults lines has_ended → BeginsWith most text lines
+        → Talked disk has_ended limits s new_store bytes old new sent new_sent told new_told faults new_faults
+    stopped_in has_ended its most new_store new new_sent new_told new_faults lines same_limits same_most sooner its_went begins_so =
+        let state = after_records s (records_of r.went.turns) in
+        let went = subst (λ (l : Limits). WentStopped disk l state new_store mid new sent1 new_sent told1 new_told faults1 new_faults lines has_ended) same_limits its_went in
+        let all = stopped_then disk limits s store new_store old mid new sent sent1 new_sent told told1 new_told faults faults1 new_faults r.lines lines r.went sooner has_ended went in
+        let begins = subst (λ (n : ℕ). BeginsWith n text lines) same_most begins_so (take (limits.connection - count) r.rest) in
+        let its_lines = r.of_lines ∙ ap (λ (x : List (List ℕ)). r.lines ++ x) begins.1 ∙ sym (append_assoc r.lines lines begins.0) ∙ ap (λ (x : List (List ℕ)). x ++ begins.0) (sym all.of_lines) in
+        record {
+          talk = record { answered = all.turns; last = stopped all.last };
+          is_talk = record { answers = all.answers; ends = ((begins.0, its_lines), all.is_turn, all.is_stop) };
+          ends = all.ends;
+          read = all.read;
+          written = λ before is.
+              let one = all.written before fresh is in
+              (one.0, one.1, record { bytes = one.2.bytes ∙ sym (append-nil (out_of (all.turns ++ all.last ∷ []))); failed = one.2.failed refl; notes = one.2.notes });
+          counted = all.counted;
+          leaves = leaves_if disk all.last.given.how has_ended new_store (after_records s (records_of (all.turns ++ all.last ∷ []))) new all.ends all.leaves;
+          survives = all.survives;
+        }
+
+    -- it ended behind its lines, and the run goes on
+    talked_so : (last : Last) (new_sent : List Sent) (new_faults : ℕ) → stopped_of last ≡ [] → last_tried last ≡ [] → last_noted last ≡ [] → has_ended last ≡ false → EndsSo limits (after_records s (records_of r.went.turns)) bytes (map (λ u. u.line) r.went.turns) last
+        → LastGoes (EndsWith (ending_out last) (has_failed last)) sent1 new_sent → CountedBy (has_failed last) faults new_faults → Talked disk false limits s store bytes old mid sent new_sent told told1 faults new_faults
+    talked_so last new_sent new_faults no_turn no_records no_note no_end ends goes counts =
+        let turns = r.went.turns in
+        let same : turns ≡ turns ++ stopped_of last = sym (ap (λ (l : List Turn). turns ++ l) no_turn ∙ append-nil turns) in
+        let noted : turns ≡ turns ++ last_noted last = sym (ap (λ (l : List Turn). turns ++ l) no_note ∙ append-nil turns) in
+        let tries : records_of turns ≡ records_of turns ++ last_tried last = sym (ap (λ (l : List (List Event)). records_of turns ++ l) no_records ∙ append-nil (records_of turns)) in
+        record {
+          talk = record { answered = turns; last = last };
+          is_talk = record { answers = r.went.answers; ends = ends };
+          ends = no_end;
+          read = r.went.read ∙ ap (λ (ts : List Turn). told ++ map (λ t. t.reading) ts) same;
+          written = λ before is.
+              let one = r.went.written before fresh is in
+              let two = goes before one.0 one.1 in (
+                two.0,
+                two.1,
+                record {
+                  bytes = two.2.bytes ∙ ap (λ (l : List ℕ). l ++ ending_out last) one.2.bytes ∙ ap (λ (ts : List Turn). out_of ts ++ ending_out last) same;
+                  failed = two.2.failed one.2.failed;
+                  notes = (two.2.notes.0, two.2.notes.1 ∙ ap (λ (l : List (ℕ × ℕ)). l ++ two.2.notes.0) (one.2.notes ∙ ap (notes_from 0) noted));
+                },
+              );
+          counted = counts;
+          leaves = subst (λ (ts : List Turn). Stands store (after_records s (records_of ts)) (disk.held mid) (disk.may_leave mid)) same r.went.stands;
+          survives = subst (λ (ts : List Turn). Survives disk s (records_of turns ++ last_tried last) ts old mid) same (subst (λ (l : List (List Event)). Survives disk s l turns old mid) tries r.went.survives);
+        }
+
+    all_lines : lines_in limits.line future ≡ [] → lines_of_connection limits bytes ≡ map (λ u. u.line) r.went.turns
+    all_lines no_more = r.of_lines ∙ ap (λ (x : List (List ℕ)). r.lines ++ x) no_more ∙ append-nil r.lines ∙ sym r.went.of_lines
+
+    -- nothing is written behind the lines
+    pub closed_quietly : (new_sent : List Sent) (new_faults : ℕ) → lines_in limits.line future ≡ [] → ending_in limits.line (leb limits.connection (length bytes)) future ≡ [] → new_sent ≡ sent1 → new_faults ≡ faults1 → Talked disk false limits s store bytes old mid sent new_sent told told1 faults new_faults
+    closed_quietly new_sent new_faults no_more nothing same calm =
+        talked_so (closed []) new_sent new_faults refl refl refl refl (all_lines no_more, sym (r.of_ending ∙ nothing)) (λ before c is. (c, same ∙ is, ends_quietly c)) (calm ∙ r.went.counted)
+
+    -- a read failed
+    pub left_unread : (new_sent : List Sent) (new_faults : ℕ) → LastGoes Marks sent1 new_sent → Risen faults1 new_faults → Talked disk false limits s store bytes old mid sent new_sent told told1 faults new_faults
+    left_unread new_sent new_faults marks rose =
+        talked_so unread new_sent new_faults refl refl refl refl
+        (lines_in limits.line future, r.of_lines ∙ ap (λ (x : List (List ℕ)). x ++ lines_in limits.line future) (sym r.went.of_lines))
+        (goes_as Marks (EndsWith [] true) ends_marked sent1 new_sent marks) (subst (λ (n : ℕ). Risen n new_faults) r.went.counted rose)
+
+    -- a refusal is written behind the lines
+    pub refused_behind : {T E : Type 0} (ending written : List ℕ) (m : ℕ) (w : Result T E) (new_sent : List Sent) (new_faults : ℕ) → written ≡ ending → lines_in limits.line future ≡ [] → ending_in limits.line (leb limits.connection (length bytes)) future ≡ ending
+        → OnOk w (LastGoes (Adds written m) sent1 new_sent) → OnErr w (LastGoes (AddsPart written m) sent1 new_sent) → Counts faults1 new_faults w → Talked disk false limits s store bytes old mid sent new_sent told told1 faults new_faults
+    refused_behind ending written m (Ok x) new_sent new_faults same no_more is wrote part counts =
+        talked_so (closed ending) new_sent new_faults refl refl refl refl (all_lines no_more, sym (r.of_ending ∙ is))
+        (subst (λ (l : List ℕ). LastGoes (EndsWith l false) sent1 new_sent) same (goes_as (Adds written m) (EndsWith written false) (ends_added written m) sent1 new_sent wrote)) (counts.fine refl ∙ r.went.counted)
+    refused_behind ending written m (Err x) new_sent new_faults same no_more is wrote part counts =
+        let piece = said_part written m sent1 new_sent part in
+        let some = take piece.0 written in
+        let whole : ending_of_connection limits bytes ≡ some ++ drop piece.0 written = r.of_ending ∙ is ∙ sym same ∙ sym (take-append-drop piece.0 written) in
+        talked_so (cut some) new_sent new_faults refl refl refl refl (all_lines no_more, (drop piece.0 written, whole))
+        (goes_as (CutsOff some m) (EndsWith some true) (ends_cut some m) sent1 new_sent piece.1) (subst (λ (n : ℕ). Risen n new_faults) r.went.counted (counted_risen faults1 new_faults (counts.failed refl)))
+
+    -- the connection is at its end
+    at_end : position is_lf text ≡ None → length text ≤ limits.line → count < limits.connection → hand ≡ Some [] → (lines_in limits.line future ≡ []) × (ending_in limits.line (leb limits.connection (length bytes)) future ≡ rest_ending false text)
+    at_end none fits less is =
+        let rest : r.rest ≡ [] = same_some r.rest [] (sym r.at_hand ∙ is) in
+        let all : future ≡ text = ap (λ (x : List ℕ). text ++ take (limits.connection - count) x) rest ∙ ap (λ (x : List ℕ). text ++ x) (take_nil (limits.connection - count)) ∙ append-nil text in
+        let size : length r.rest ≡ 0 = ap length rest in
+        let short : length bytes < limits.connection = omega (arith, r.counted, size, less) in
+        let part : leb limits.connection (length bytes) ≡ false = grind (arith, nat_tests) in
+        let facts = at_rest limits.line false text none fits in
+        (ap (lines_in limits.line) all ∙ facts.0, ap (ending_in limits.line (leb limits.connection (length bytes))) all ∙ ap (λ (b : Bool). ending_in limits.line b text) part ∙ facts.1)
+
+    module _ (new_text got : List ℕ) (none : position is_lf text ≡ None) (fits : length text ≤ limits.line) (less : count < limits.connection) (is : hand ≡ Some []) (read : new_text ≡ text ++ got) (nothing : length got ≡ 0) where
+      text_same : new_text ≡ text
+      text_same = read ∙ ap (λ (x : List ℕ). text ++ x) (no_bytes got nothing) ∙ append-nil text
+
+      pub ended_blank : (new_sent : List Sent) (new_faults : ℕ) → is_blank new_text ≡ true → new_sent ≡ sent1 → new_faults ≡ faults1 → Talked disk false limits s store bytes old mid sent new_sent told told1 faults new_faults
+      ended_blank new_sent new_faults blank same calm =
+          let facts = at_end none fits less is in
+          let blank_too : is_blank text ≡ true = sym (ap is_blank text_same) ∙ blank in
+          closed_quietly new_sent new_faults facts.0 (facts.1 ∙ ap (λ (b : Bool). cond b [] line_not_ended) blank_too) same calm
+
+      pub ended_rest : {T E : Type 0} (written : List ℕ) (m : ℕ) (w : Result T E) (between : List Sent) (fault : ℕ) (new_sent : List Sent) (new_faults : ℕ) → written ≡ line_not_ended → is_blank new_text ≡ false → between ≡ sent1 → fault ≡ faults1
+          → OnOk w (LastGoes (Adds written m) between new_sent) → OnErr w (LastGoes (AddsPart written m) between new_sent) → Counts fault new_faults w → Talked disk false limits s store bytes old mid sent new_sent told told1 faults new_faults
+      ended_rest written m w between fault new_sent new_faults its blank same calm wrote part counts =
+          let facts = at_end none fits less is in
+          let some : is_blank text ≡ false = sym (ap is_blank text_same) ∙ blank in
+          refused_behind line_not_ended written m w new_sent new_faults its facts.0 (facts.1 ∙ ap (λ (b : Bool). cond b [] line_not_ended) some)
+          (subst (λ (x : List Sent). OnOk w (LastGoes (Adds written m) x new_sent)) same wrote) (subst (λ (x : List Sent). OnErr w (LastGoes (AddsPart written m) x new_sent)) same part) (subst (λ (n : ℕ). Counts n new_faults w) calm counts)
+
+    -- as many bytes as are allowed were read
+    pub all_read : {T E : Type 0} (written : List ℕ) (m : ℕ) (w : Result T E) (new_sent : List Sent) (new_faults : ℕ) → written ≡ connection_too_long → position is_lf text ≡ None → length text ≤ limits.line → count ≡ limits.connection
+        → OnOk w (LastGoes (Adds written m) sent1 new_sent) → OnErr w (LastGoes (AddsPart written m) sent1 new_sent) → Counts faults1 new_faults w → Talked disk false limits s store bytes old mid sent new_sent told told1 faults new_faults
+    all_read written m w new_sent new_faults its none fits full_count wrote part counts =
+        let zero_left : limits.connection - count ≡ 0 = omega (arith, full_count) in
+        let all : future ≡ text = ap (λ (k : ℕ). text ++ take k r.rest) zero_left ∙ append-nil text in
+        let long : limits.connection ≤ length bytes = omega (arith, r.counted, full_count) in
+        let full : leb limits.connection (length bytes) ≡ true = grind (arith, nat_tests) in
+        let facts = at_rest limits.line true text none fits in
+        refused_behind connection_too_long written m w new_sent new_faults its (ap (lines_in limits.line) all ∙ facts.0) (ap (ending_in limits.line (leb limits.connection (length bytes))) all ∙ ap (λ (b : Bool). ending_in limits.line b text) full ∙ facts.1) wrote part counts
+
+    -- the line at hand is too long
+    pub line_full : {T E : Type 0} (written : List ℕ) (m : ℕ) (w : Result T E) (new_sent : List Sent) (new_faults : ℕ) → written ≡ line_too_long → position is_lf text ≡ None → limits.line < length text
+        → OnOk w (LastGoes (Adds written m) sent1 new_sent) → OnErr w (LastGoes (AddsPart written m) sent1 new_sent) → Counts faults1 new_faults w → Talked disk false limits s store bytes old mid sent new_sent told told1 faults new_faults
+    line_full written m w new_sent new_faults its none long wrote part counts =
+        let facts = too_long limits.line (leb limits.connection (length bytes)) text (take (limits.connection - count) r.rest) none long in
+        refused_behind line_too_long written m w new_sent new_faults its facts.0 facts.1 wrote part counts
 
 pub or_right : {P : Type 0} → ⊥ ⊎ P → P
 or_right (inl x) = absurd x

@@ -1,5 +1,5 @@
-pub mod Words
 pub mod Lines
 pub mod Runs
+pub mod Crashes
 pub mod Steps
 pub mod Ends

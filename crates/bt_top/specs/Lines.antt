@@ -3,11 +3,7 @@ use Rattle.std.specs.Prelude.{ℕ, ◌==◌, ◌||◌, ltb, leb, Bool, List, [],
 use Rattle.std.specs.List.{list_all, slice_split}
 use Rattle.bt_messages.specs.declared.refusal.Refusal.TheVariants.{LineTooLong, ConnectionTooLong, LineNotEnded}
 use Rattle.bt_messages.specs.Refusals.{refusal_line}
-use Rattle.bt_top.specs.declared.limits.Limits.{Limits}
-
--- the limits of the program: lines of 16 MiB, and connections of 1 TiB
-abbrev pub standard_limits : Limits
-standard_limits = record { line = 16777216; connection = 1099511627776 }
+use Rattle.bt_store.specs.declared.limits.Limits.{Limits}
 
 -- a line that holds only spaces, tabs and CR, or nothing
 abbrev pub is_blank : List ℕ → Bool

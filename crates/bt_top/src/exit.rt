@@ -9,8 +9,13 @@ pub enum Exit {
     Done,
     /// The words of the command line are none that the program knows.
     Usage,
-    /// An allocation was refused before anything was read.
+    /// An allocation was refused before a connection was taken.
     OutOfMemory,
+    /// A call of the disk failed while the tables were loaded, or a write, a cut or a sync while a
+    /// line was handled.
+    DiskFault,
+    /// The bytes of a file are outside their format from that place on. Nothing was served.
+    Damaged { file: u64, at: u64 },
     /// The next connection could not be had.
     LinkFault,
 }
@@ -24,6 +29,8 @@ impl Exit {
             Exit::Done => 0,
             Exit::Usage => 2,
             Exit::OutOfMemory => 3,
+            Exit::DiskFault => 4,
+            Exit::Damaged { .. } => 5,
             Exit::LinkFault => 6,
         }
     }

@@ -4,15 +4,15 @@
 mod buffer;
 mod connection;
 mod exit;
-mod limits;
 mod lines;
-mod session;
+mod serving;
 mod top;
-mod words;
 
+pub use bt_store::Limits;
+pub use bt_words::{Command, WordsRefusal, read_words};
 pub use exit::Exit;
+pub use serving::session;
 pub use top::bigtable;
-pub use words::{Command, WordsRefusal, read_words};
 
 #[cfg(test)]
 mod tests;

@@ -1,9 +1,11 @@
-use crate::limits::Limits;
-use crate::session::session;
-use crate::{Exit, bigtable};
+use crate::serving::session;
+use crate::{Exit, Limits, bigtable};
 use bt_base::{Blob, BlobList};
-use bt_outside::{ListClock, MemoryDisk, MemoryLinks, MemoryPrint, PieceLists, Readings};
-use bt_state::Tables;
+use bt_outside::{
+    DiskImage, FileBytes, FileList, ListClock, MemoryDisk, MemoryLinks, MemoryPrint, PieceLists,
+    Readings,
+};
+use bt_store::Store;
 use bt_types::{Text, TextList};
 use std::alloc::Global;
 use std::test::Fail;
@@ -27,33 +29,31 @@ fn serve(alloc: Global, links: &mut MemoryLinks) -> Result<Exit, Fail> {
     let limits = Limits {
         line: 8,
         connection: 20,
+        ..Limits::standard()
     };
-    let mut tables = Tables::new(alloc);
-    let disk = MemoryDisk::new(alloc);
+    let mut disk = MemoryDisk::new(alloc);
+    let mut store = Store::load(alloc, &mut disk, &limits)?;
     let mut clock = new_clock(alloc)?;
-    let exit = session(alloc, &mut tables, &disk, links, &mut clock, &limits, 1);
+    let exit = session(alloc, &mut store, &mut disk, links, &mut clock, 1);
     Ok(exit)
+}
+
+// Whether a connection with these bytes is served, and answered so.
+fn is_answered(alloc: Global, bytes: &[u8], replies: &[u8]) -> Result<bool, Fail> {
+    let mut links = links_of(alloc, bytes)?;
+    let exit = serve(alloc, &mut links)?;
+    Ok(exit == Exit::Done && links.written(0) == replies)
 }
 
 #[test]
 fn limits_end_a_connection(rt: HostRuntime) -> Result<(), Fail> {
     let alloc = rt.alloc();
-    let mut links = links_of(alloc, b"nonsense\n")?;
-    assert_eq!(rt; serve(alloc, &mut links)?, Exit::Done);
-    assert!(rt;
-        links.written(0) == b"{\"status\":{\"code\":12,\"message\":\"not built\"}}\n".as_slice()
-    );
-    let mut links = links_of(alloc, b"nonsenses\nx\n")?;
-    assert_eq!(rt; serve(alloc, &mut links)?, Exit::Done);
-    assert!(rt;
-        links.written(0) == b"{\"status\":{\"code\":3,\"message\":\"line too long\"}}\n".as_slice()
-    );
-    let mut links = links_of(alloc, b"\n\n\n\n\n\n\n\n\n\n\n\n\n\n\n\n\n\n\n\n\n")?;
-    assert_eq!(rt; serve(alloc, &mut links)?, Exit::Done);
-    assert!(rt;
-        links.written(0)
-            == b"{\"status\":{\"code\":3,\"message\":\"connection too long\"}}\n".as_slice()
-    );
+    let reply = b"{\"status\":{\"code\":3,\"message\":\"not json\"}}\n";
+    assert!(rt; is_answered(alloc, b"nonsense\n", reply)?);
+    let reply = b"{\"status\":{\"code\":3,\"message\":\"line too long\"}}\n";
+    assert!(rt; is_answered(alloc, b"nonsenses\nx\n", reply)?);
+    let reply = b"{\"status\":{\"code\":3,\"message\":\"connection too long\"}}\n";
+    assert!(rt; is_answered(alloc, b"\n\n\n\n\n\n\n\n\n\n\n\n\n\n\n\n\n\n\n\n\n", reply)?);
     Ok(())
 }
 
@@ -71,34 +71,56 @@ fn failing_links_end_their_connection(rt: HostRuntime) -> Result<(), Fail> {
     assert_eq!(rt; fails_at(alloc, 1)?, (Exit::LinkFault, 0, false));
     assert_eq!(rt; fails_at(alloc, 2)?, (Exit::Done, 0, true));
     assert_eq!(rt; fails_at(alloc, 3)?, (Exit::Done, 0, true));
-    assert_eq!(rt; fails_at(alloc, 4)?, (Exit::Done, 45, true));
+    assert_eq!(rt; fails_at(alloc, 4)?, (Exit::Done, 43, true));
     Ok(())
 }
 
-fn run(alloc: Global, words: TextList) -> Result<Exit, Fail> {
-    let mut disk = MemoryDisk::new(alloc);
+// Runs over this disk, with one connection that has a blank line.
+fn run(alloc: Global, words: &TextList, disk: &mut MemoryDisk) -> Result<Exit, Fail> {
     let mut links = links_of(alloc, b"\n")?;
     let mut clock = new_clock(alloc)?;
     let mut screen = MemoryPrint::new(alloc);
-    let exit = bigtable(
-        alloc,
-        &words,
-        &mut disk,
-        &mut links,
-        &mut clock,
-        &mut screen,
-    );
+    let exit = bigtable(alloc, words, disk, &mut links, &mut clock, &mut screen);
     Ok(exit)
+}
+
+fn run_words(alloc: Global) -> Result<TextList, Fail> {
+    let mut words = TextList::new(alloc);
+    words.push(Text::new(alloc, "run")?)?;
+    words.push(Text::new(alloc, "data")?)?;
+    Ok(words)
 }
 
 #[test]
 fn words_decide_what_is_served(rt: HostRuntime) -> Result<(), Fail> {
     let alloc = rt.alloc();
-    assert_eq!(rt; run(alloc, TextList::new(alloc))?, Exit::Usage);
-    let mut words = TextList::new(alloc);
-    words.push(Text::new(alloc, "run")?)?;
-    words.push(Text::new(alloc, "data")?)?;
-    assert_eq!(rt; run(alloc, words)?, Exit::Done);
-    assert_eq!(rt; Exit::LinkFault.status(), 6);
+    let mut disk = MemoryDisk::new(alloc);
+    assert_eq!(rt; run(alloc, &TextList::new(alloc), &mut disk)?, Exit::Usage);
+    assert_eq!(rt; run(alloc, &run_words(alloc)?, &mut disk)?, Exit::Done);
+    Ok(())
+}
+
+#[test]
+fn a_disk_that_stops_ends_the_run(rt: HostRuntime) -> Result<(), Fail> {
+    let alloc = rt.alloc();
+    let mut disk = MemoryDisk::new(alloc);
+    disk.stop_at(3);
+    let exit = run(alloc, &run_words(alloc)?, &mut disk)?;
+    assert_eq!(rt; (exit, exit.status()), (Exit::DiskFault, 4));
+    Ok(())
+}
+
+#[test]
+fn a_damaged_file_is_named(rt: HostRuntime) -> Result<(), Fail> {
+    let alloc = rt.alloc();
+    let bytes = Blob::new(alloc, b"\x01nonsense nonsense")?;
+    let mut files = FileList::new(alloc);
+    files.push(FileBytes { number: 0, bytes })?;
+    let mut disk = MemoryDisk::from_image(alloc, DiskImage { files });
+    let exit = run(alloc, &run_words(alloc)?, &mut disk)?;
+    assert_eq!(rt;
+        (exit, exit.status()),
+        (Exit::Damaged { file: 0, at: 0 }, 5)
+    );
     Ok(())
 }

@@ -1,27 +1,30 @@
 //! The call that the program makes.
-ghost use Rattle.std.specs.Prelude.{◌≡◌, ◌↔◌, ◌⊎◌, None, IsSome};
+ghost use Rattle.std.specs.Prelude.{◌≡◌, ◌⊎◌, ℕ, None, Some, IsSome};
 ghost use Rattle.bt_base.specs.Counts.{Risen};
-ghost use Rattle.bt_state.specs.State.{empty_state};
-ghost use Rattle.bt_top.specs.Words.{command_of};
-ghost use Rattle.bt_top.specs.Lines.{standard_limits};
-ghost use Rattle.bt_top.specs.Ends.{EndedRun, connections_of};
+ghost use Rattle.bt_gate.specs.Faults.{Failed};
+ghost use Rattle.bt_state.specs.State.{State};
+ghost use Rattle.bt_store.specs.Held.{HoldsState, IsBroken, IsSound};
+ghost use Rattle.bt_words.specs.Words.{command_of};
+ghost use Rattle.bt_top.specs.Ends.{EndedRun, WhereItFailed, connections_of, exit_of, standard_limits};
 
 use crate::exit::Exit;
-use crate::limits::Limits;
-use crate::session::session;
-use crate::words::{Command, WordsRefusal, read_words};
+use crate::serving::session;
 use bt_outside::{Clock, Disk, Links, Print};
-use bt_state::Tables;
+use bt_store::{Limits, Store, StoreFault};
 use bt_types::TextList;
+use bt_words::{Command, WordsRefusal, read_words};
 use std::alloc::Global;
 
 /// Does what the words of the command line ask for, over this disk, these links, this clock and
 /// this screen.
 ///
-/// `run DIR` serves one connection. The clauses speak of the links where they tell their bytes, and
-/// of the clock where it tells its readings: `run` says that what was written is a run of the
-/// abstract service from the empty state, with each connection's mark and its cause, and that the
-/// run is complete where no fault was counted. Nothing is kept on the disk or printed yet.
+/// `run DIR` loads the tables that the disk holds and serves one connection, and
+/// `serve DIR ADDRESS COUNT` so many connections, one after another. The folder and the address are
+/// the caller's to give to the disk and the links. The clauses speak of the disk, the links and the
+/// clock where they tell what they hold: `run` says that what was written is a run of the abstract service from the state that the disk held, with each
+/// connection's mark and its cause, that the disk holds the state after it, that a crash at each
+/// moment leaves the state after a prefix of its records with every acknowledged one, and that the
+/// run is complete where no fault was counted.
 pub fn bigtable<D: Disk, L: Links<D>, C: Clock, P: Print>(
     alloc: Global,
     words: &TextList,
@@ -30,48 +33,70 @@ pub fn bigtable<D: Disk, L: Links<D>, C: Clock, P: Print>(
     clock: &mut C,
     screen: &mut P,
 ) -> Exit
-    ensures run { L.tells → C.tells clock.new → EndedRun result standard_limits (connections_of (command_of words.now)) empty_state (L.left links.old) (L.left links.new) (L.sent links.old) (L.sent links.new) (C.told clock.old) (C.told clock.new) (L.faults links.old) (L.faults links.new) }
+    ensures run { D.tells → L.tells → C.tells clock.new → (s : State) → HoldsState s (D.held disk.old) → EndedRun D.Disk result standard_limits (connections_of (command_of words.now)) s disk.old disk.new (L.left links.old) (L.left links.new) (L.sent links.old) (L.sent links.new) (C.told clock.old) (C.told clock.new) (L.faults links.old) (L.faults links.new) }
     ensures clock_tells { C.tells clock.new → C.tells clock.old }
 
     // When each exit comes.
-    ensures usage { (result ≡ Exit.Usage) ↔ (command_of words.now ≡ None) }
-    ensures usage_reads_nothing { result ≡ Exit.Usage → (links.new ≡ links.old) × (clock.new ≡ clock.old) }
+    ensures usage { result ≡ Exit.Usage → command_of words.now ≡ None }
+    ensures no_command { command_of words.now ≡ None → (result ≡ Exit.Usage) ⊎ (result ≡ Exit.OutOfMemory) }
+    ensures usage_does_nothing { result ≡ Exit.Usage → (links.new ≡ links.old) × (clock.new ≡ clock.old) × (disk.new ≡ disk.old) }
     ensures out_of_memory { result ≡ Exit.OutOfMemory → (links.new ≡ links.old) × (clock.new ≡ clock.old) }
+    ensures disk_fault { result ≡ Exit.DiskFault → Failed D.Disk disk.old disk.new × WhereItFailed D.Disk disk.old disk.new ((links.new ≡ links.old) × (clock.new ≡ clock.old)) }
+    ensures damaged { (file at : ℕ) → result ≡ Exit.Damaged file at → (D.tells → IsBroken (D.held disk.old) file at) × (links.new ≡ links.old) × (clock.new ≡ clock.old) }
+    ensures unsound { D.tells → (IsSound (D.held disk.old) → ⊥) → (links.new ≡ links.old) × (clock.new ≡ clock.old) }
     ensures link_fault { result ≡ Exit.LinkFault → Risen (L.next_faults links.old) (L.next_faults links.new) }
-    ensures no_fault { IsSome (command_of words.now) → (Risen (L.next_faults links.old) (L.next_faults links.new) → ⊥) → (result ≡ Exit.Done) ⊎ (result ≡ Exit.OutOfMemory) }
+    ensures no_fault { IsSome (command_of words.now) → D.tells → IsSound (D.held disk.old) → (Risen (D.faults disk.old) (D.faults disk.new) → ⊥) → (Risen (L.next_faults links.old) (L.next_faults links.new) → ⊥) → (result ≡ Exit.Done) ⊎ (result ≡ Exit.OutOfMemory) }
 
-    ensures disk { disk.new ≡ disk.old }
     ensures screen { screen.new ≡ screen.old }
 {
     let _ = screen;
-    let Command::Run { folder: _ } = match read_words(alloc, words) {
-        Ok(command) => command,
-        Err(WordsRefusal::Usage) => return Exit::Usage,
-        Err(WordsRefusal::OutOfMemory) => return Exit::OutOfMemory,
-    };
-    serve_one(alloc, disk, links, clock)
+    match read_words(alloc, words) {
+        Ok(command) => served(alloc, disk, links, clock, connections_of(&command)),
+        Err(WordsRefusal::Usage) => Exit::Usage,
+        Err(WordsRefusal::OutOfMemory) => Exit::OutOfMemory,
+    }
 }
 
-fn serve_one<D: Disk, L: Links<D>, C: Clock>(
+// How many connections a command serves at most.
+fn connections_of(command: &Command) -> u32
+    ensures { result ≡ connections_of (Some command.now) }
+{
+    match command {
+        Command::Run { .. } => 1,
+        Command::Serve { count, .. } => *count,
+    }
+}
+
+// Loads the tables, and serves so many connections.
+fn served<D: Disk, L: Links<D>, C: Clock>(
     alloc: Global,
-    disk: &D,
+    disk: &mut D,
     links: &mut L,
     clock: &mut C,
+    count: u32,
 ) -> Exit
-    ensures run { L.tells → C.tells clock.new → EndedRun result standard_limits 1 empty_state (L.left links.old) (L.left links.new) (L.sent links.old) (L.sent links.new) (C.told clock.old) (C.told clock.new) (L.faults links.old) (L.faults links.new) }
+    ensures run { D.tells → L.tells → C.tells clock.new → (s : State) → HoldsState s (D.held disk.old) → EndedRun D.Disk result standard_limits count s disk.old disk.new (L.left links.old) (L.left links.new) (L.sent links.old) (L.sent links.new) (C.told clock.old) (C.told clock.new) (L.faults links.old) (L.faults links.new) }
     ensures clock_tells { C.tells clock.new → C.tells clock.old }
     ensures no_usage { (result ≡ Exit.Usage) → ⊥ }
     ensures out_of_memory { result ≡ Exit.OutOfMemory → (links.new ≡ links.old) × (clock.new ≡ clock.old) }
+    ensures disk_fault { result ≡ Exit.DiskFault → Failed D.Disk disk.old disk.new × WhereItFailed D.Disk disk.old disk.new ((links.new ≡ links.old) × (clock.new ≡ clock.old)) }
+    ensures damaged { (file at : ℕ) → result ≡ Exit.Damaged file at → (D.tells → IsBroken (D.held disk.old) file at) × (links.new ≡ links.old) × (clock.new ≡ clock.old) }
+    ensures unsound { D.tells → (IsSound (D.held disk.old) → ⊥) → (links.new ≡ links.old) × (clock.new ≡ clock.old) }
     ensures link_fault { result ≡ Exit.LinkFault → Risen (L.next_faults links.old) (L.next_faults links.new) }
 {
-    let mut tables = Tables::new(alloc);
-    session(
-        alloc,
-        &mut tables,
-        disk,
-        links,
-        clock,
-        &Limits::standard(),
-        1,
-    )
+    match Store::load(alloc, disk, &Limits::standard()) {
+        Ok(mut store) => session(alloc, &mut store, disk, links, clock, count),
+        Err(fault) => exit_of(fault),
+    }
+}
+
+// How a run ends that could not load the tables. Loading writes no record that could be too large.
+fn exit_of(fault: StoreFault) -> Exit
+    ensures { result ≡ exit_of fault }
+{
+    match fault {
+        StoreFault::DiskFailed | StoreFault::TooLarge { .. } => Exit::DiskFault,
+        StoreFault::Damaged { file, at } => Exit::Damaged { file, at },
+        StoreFault::OutOfMemory => Exit::OutOfMemory,
+    }
 }

@@ -1,12 +1,9 @@
 use Rattle.std.proofs.Common.{refl}
-use Rattle.bt_top.proofs.Sessions.{ended_at_once, calm_exit}
+use Rattle.bt_top.proofs.Endings.{at_once, ended_unserved}
 use Rattle.bt_top.proofs.top.bigtable.Goals as goal
 
 pub returns-in-Err-Usage-clause-run : goal.returns-in-Err-Usage-clause-run
-returns-in-Err-Usage-clause-run g c t k = ended_at_once _ _ _ _ _ _ _ _ refl
+returns-in-Err-Usage-clause-run g c d l k s holds = ended_unserved g.D.Disk _ _ _ _ _ _ _ _ _ _ refl holds refl (at_once g.D.Disk _ (g.met.D.Disk.only_now _))
 
 pub returns-in-Err-OutOfMemory-clause-run : goal.returns-in-Err-OutOfMemory-clause-run
-returns-in-Err-OutOfMemory-clause-run g c t k = ended_at_once _ _ _ _ _ _ _ _ refl
-
-pub returns-clause-no_fault : goal.returns-clause-no_fault
-returns-clause-no_fault g c known calm = calm_exit c.serve_one.result _ c.serve_one.ensures.no_usage c.serve_one.ensures.link_fault calm
+returns-in-Err-OutOfMemory-clause-run g c d l k s holds = ended_unserved g.D.Disk _ _ _ _ _ _ _ _ _ _ refl holds refl (at_once g.D.Disk _ (g.met.D.Disk.only_now _))
