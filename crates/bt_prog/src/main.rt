@@ -1,24 +1,25 @@
-//! The program: a table service over standard input and output.
+//! The program: a table service over a folder, for standard input and output or for TCP clients.
 #![tactic(auto)]
 
-mod std_links;
-mod std_print;
-mod system_clock;
-
 use bt_base::OutOfMemory;
-use bt_outside::MemoryDisk;
-use bt_top::{Exit, bigtable};
+use bt_outside::{Disk, Links};
+use bt_real::{FileDisk, LockRefused, StdLinks, StdPrint, SystemClock, TcpLinks};
+use bt_top::{Command, Exit, bigtable, read_words};
 use bt_types::{Text, TextList};
-use std::env;
+use std::alloc::Global;
 use std::io::ErrorKind;
 use std::process::ExitCode;
-use std_links::StdLinks;
-use std_print::StdPrint;
-use system_clock::SystemClock;
+use std::rt::Env;
+use std::{env, io, rt};
+
+#[cfg(test)]
+mod tests;
+
+const USAGE: &str = "usage: run DIR | serve DIR ADDRESS COUNT";
 
 // The words without the program's name, or how the run ends without them. A word that is not text
 // is no command.
-fn read_arguments(rt: &(impl std::rt::Env + AllocGlobal)) -> Result<TextList, Exit> {
+fn read_arguments(rt: &(impl Env + AllocGlobal)) -> Result<TextList, Exit> {
     let arguments = match env::args(rt) {
         Ok(arguments) => arguments,
         Err(e) if e.kind() == ErrorKind::OutOfMemory => return Err(Exit::OutOfMemory),
@@ -38,32 +39,70 @@ fn read_arguments(rt: &(impl std::rt::Env + AllocGlobal)) -> Result<TextList, Ex
 fn report(rt: &impl Eprint, exit: Exit) {
     let _ = match exit {
         Exit::Done => Ok(()),
-        Exit::Usage => rt.eprintln("usage: run DIR"),
+        Exit::Usage => rt.eprintln(USAGE),
         Exit::OutOfMemory => rt.eprintln("out of memory"),
+        Exit::DiskFault => rt.eprintln("disk failed"),
+        Exit::Damaged { file, at } => eprintln!(rt; "damaged file {file} at {at}"),
         Exit::LinkFault => rt.eprintln("link failed"),
     };
 }
 
-fn main(rt: HostRuntime) -> ExitCode {
-    let alloc = rt.alloc();
-    let mut disk = MemoryDisk::new(alloc);
-    let mut links = StdLinks::new(rt.stdin(), rt.stdout());
-    let mut clock = SystemClock::new(&rt);
-    let mut screen = StdPrint::new(&rt);
-    let exit = match read_arguments(&rt) {
-        Ok(words) => bigtable(
-            alloc,
-            &words,
-            &mut disk,
-            &mut links,
-            &mut clock,
-            &mut screen,
-        ),
-        Err(exit) => exit,
+fn report_lock(rt: &impl Eprint, refused: LockRefused) {
+    let _ = match refused {
+        LockRefused::InUse => rt.eprintln("folder in use"),
+        LockRefused::Failed => rt.eprintln("disk failed"),
     };
-    report(&rt, exit);
+}
+
+// A word, or nothing where there are not so many.
+fn word(words: &TextList, at: usize) -> &str {
+    match words.items().get(at) {
+        Some(word) => word.text(),
+        None => "",
+    }
+}
+
+fn served<R: io::Print + rt::Clock, D: Disk, L: Links<D>>(
+    rt: &R,
+    alloc: Global,
+    words: &TextList,
+    disk: &mut D,
+    links: &mut L,
+) -> Exit {
+    let mut clock = SystemClock::new(rt);
+    let mut screen = StdPrint::new(rt);
+    bigtable(alloc, words, disk, links, &mut clock, &mut screen)
+}
+
+// Ends with an exit, and says why.
+fn ended(rt: &impl Eprint, exit: Exit) -> ExitCode {
+    report(rt, exit);
     ExitCode::from(exit.status())
 }
 
-#[cfg(test)]
-mod tests;
+fn main(rt: HostRuntime) -> ExitCode {
+    let words = match read_arguments(&rt) {
+        Ok(words) => words,
+        Err(exit) => return ended(&rt, exit),
+    };
+    let command = read_words(rt.alloc(), &words);
+    let mut disk = FileDisk::new(&rt, rt.alloc(), word(&words, 1));
+    // Two runs over one folder would write over each other.
+    if command.is_ok() {
+        if let Err(refused) = disk.lock() {
+            report_lock(&rt, refused);
+            return ExitCode::from(Exit::DiskFault.status());
+        }
+    }
+    let exit = match command {
+        Ok(Command::Serve { count, .. }) => {
+            let mut links = TcpLinks::new(&rt, word(&words, 2), count);
+            served(&rt, rt.alloc(), &words, &mut disk, &mut links)
+        }
+        _ => {
+            let mut links = StdLinks::new(rt.stdin(), rt.stdout());
+            served(&rt, rt.alloc(), &words, &mut disk, &mut links)
+        }
+    };
+    ended(&rt, exit)
+}
