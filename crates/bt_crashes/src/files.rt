@@ -16,7 +16,7 @@ const BOTH_RECORDS: &[usize] = &[
     1, 4, 4, 8, 1, 2, 31, 2, 1, 1, 1, 8, 1, 4, 4, 8, 1, 8, 2, 1, 4, 1, 1, 1, 2, 1, 8, 4, 1,
 ];
 
-const SLOT: &[usize] = &[1, 8, 4, 8, 8, 8, 4, 8, 8, 4];
+const SLOT: &[usize] = &[1, 8, 4, 8, 8, 8, 4, 8, 8, 4, 4];
 
 fn file_line(
     alloc: Global,
