@@ -8,6 +8,7 @@ use bt_top::{Command, Exit, bigtable, read_words};
 use bt_types::{Text, TextList};
 use std::alloc::Global;
 use std::io::ErrorKind;
+use std::net::SocketAddr;
 use std::process::ExitCode;
 use std::rt::Env;
 use std::{env, io, rt};
@@ -47,11 +48,19 @@ fn report(rt: &impl Eprint, exit: Exit) {
     };
 }
 
-fn report_lock(rt: &impl Eprint, refused: LockRefused) {
+// Two runs over one folder would write over each other.
+fn not_locked(rt: &impl Eprint, refused: LockRefused) -> ExitCode {
     let _ = match refused {
         LockRefused::InUse => rt.eprintln("folder in use"),
         LockRefused::Failed => rt.eprintln("disk failed"),
     };
+    ExitCode::from(Exit::DiskFault.status())
+}
+
+fn report_address(rt: &impl Eprint, address: Option<SocketAddr>) {
+    if let Some(address) = address {
+        let _ = eprintln!(rt; "listening on {address}");
+    }
 }
 
 // A word, or nothing where there are not so many.
@@ -87,19 +96,27 @@ fn main(rt: HostRuntime) -> ExitCode {
     };
     let command = read_words(rt.alloc(), &words);
     let mut disk = FileDisk::new(&rt, rt.alloc(), word(&words, 1));
-    // Two runs over one folder would write over each other.
-    if command.is_ok() {
-        if let Err(refused) = disk.lock() {
-            report_lock(&rt, refused);
-            return ExitCode::from(Exit::DiskFault.status());
-        }
-    }
     let exit = match command {
-        Ok(Command::Serve { count, .. }) => {
-            let mut links = TcpLinks::new(&rt, word(&words, 2), count);
+        Ok(Command::Run { .. }) => {
+            if let Err(refused) = disk.lock() {
+                return not_locked(&rt, refused);
+            }
+            let mut links = StdLinks::new(rt.stdin(), rt.stdout());
             served(&rt, rt.alloc(), &words, &mut disk, &mut links)
         }
-        _ => {
+        Ok(Command::Serve { count, .. }) => {
+            let mut links = TcpLinks::new(&rt, word(&words, 2), count);
+            // A wrong address changes nothing in the folder.
+            if links.bind().is_err() {
+                return ended(&rt, Exit::LinkFault);
+            }
+            if let Err(refused) = disk.lock() {
+                return not_locked(&rt, refused);
+            }
+            report_address(&rt, links.local_address());
+            served(&rt, rt.alloc(), &words, &mut disk, &mut links)
+        }
+        Err(_) => {
             let mut links = StdLinks::new(rt.stdin(), rt.stdout());
             served(&rt, rt.alloc(), &words, &mut disk, &mut links)
         }
