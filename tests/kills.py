@@ -6,7 +6,7 @@ usage: kills.py PROGRAM DIR [TIMES]
 
 PROGRAM is the built bt_prog, DIR a folder in which one is made and removed. Each time the program
 is started over the same folder, rows are sent without waiting for replies, and signal 9 ends it
-after a random while. Then it is started again and read: each row whose OK line had come must be
+a random while after its first reply. Then it is started again and read: each row whose OK line had come must be
 there with its value, and no row may be there that was not sent. It ends with status 1 at the first
 row that is not so.
 """
@@ -57,13 +57,13 @@ def killed(program, folder, first, wait):
     run = subprocess.Popen([program, "run", folder], stdin=subprocess.PIPE, stdout=subprocess.PIPE)
     sent = [first]
     sender = threading.Thread(target=send, args=(run.stdin, first, sent))
-    killer = threading.Timer(wait, run.kill)
     sender.start()
+    replies = run.stdout.read(1)
+    killer = threading.Timer(wait, run.kill)
     killer.start()
-    replies = run.stdout.read()
+    replies += run.stdout.read()
     run.wait()
     sender.join()
-    killer.cancel()
     return sent[0] - first, replies.count(b'{"status":{}}\n')
 
 
@@ -87,13 +87,15 @@ def main():
         first, wanted, possible = 0, {}, set()
         begun = time.perf_counter()
         for _ in range(times):
-            sent, acknowledged = killed(program, data, first, chance.uniform(0.02, 0.3))
+            sent, acknowledged = killed(program, data, first, chance.uniform(0.0, 0.3))
             for number in range(first, first + acknowledged):
                 wanted["r%09d" % number] = "v%d" % number
             possible.update("r%09d" % number for number in range(first, first + sent))
             there = rows(program, data)
             missing = [key for key, value in wanted.items() if there.get(key) != value]
             strange = [key for key in there if key not in possible]
+            if not acknowledged:
+                sys.exit("nothing was acknowledged before the kill")
             if missing or strange:
                 sys.exit(f"missing {missing[:3]}, never sent {strange[:3]}")
             first += sent
