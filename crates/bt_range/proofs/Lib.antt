@@ -1,0 +1,4 @@
+pub mod Orders
+pub mod Merges
+pub mod Selecting
+pub mod Covering
