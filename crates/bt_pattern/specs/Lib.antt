@@ -1,0 +1,4 @@
+pub mod AnyByte
+pub mod Readings
+pub mod Patterns
+pub mod Compiled
