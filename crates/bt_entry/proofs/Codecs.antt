@@ -1,10 +1,10 @@
 -- A field that is read is the field that was written, and what was written is read again.
-use Rattle.std.proofs.Common.{◌≡◌, ℕ, ◌+◌, ◌^◌, ◌<◌, ◌≤◌, Bool, true, false, ◌&&◌, cond, ltb, List, [], ◌∷◌, ◌++◌, length, get_or, take, drop, Result, Ok, Err, refl, sym, ap, subst, ◌∙◌, append_assoc, arith, inl, inr, ◌⊎◌}
+use Rattle.std.proofs.Common.{◌≡◌, ℕ, ◌+◌, ◌^◌, ◌<◌, ◌≤◌, Bool, true, false, ◌&&◌, cond, eqb, ltb, List, [], ◌∷◌, ◌++◌, length, get_or, take, drop, Result, Ok, Err, refl, sym, ap, subst, ◌∙◌, append_assoc, arith, inl, inr, ◌⊎◌}
 use Rattle.std.specs.Int.{Width, w8, w16, w32, w64, byte_len, from_be_bytes, to_be_bytes}
-use Rattle.std.proofs.lemmas.Bool.{and_parts, and_from, cases_lt, ltb-false, le-ltb, leb-true, le-leb}
+use Rattle.std.proofs.lemmas.Bool.{and_parts, and_from, cases_lt, eqb-true, ltb-false, le-ltb, leb-true, le-leb}
 use Rattle.std.proofs.lemmas.List.{take_at, drop_at, take-append-drop, length-append, length-take, get_or-drop, get_or-take, get_or_past}
 use Rattle.std.proofs.lemmas.Nat.{be_bytes_2, be_bytes_4, be_bytes_8, from_be_bytes-to_be_bytes_2, from_be_bytes-to_be_bytes_4, from_be_bytes-to_be_bytes_8}
-use Rattle.std.specs.Prelude.{nat_le}
+use Rattle.std.specs.Prelude.{nat_le, ◌%◌}
 use Rattle.bt_entry.specs.Spelling.{text}
 use Rattle.bt_entry.specs.Reading.{◌>>=◌, Reads, number_at, number_with, text_at, text_with}
 
@@ -39,6 +39,9 @@ chosen false r s y e = inr (refl, e)
 abbrev done : {A : Type 0} → A → Result A ℕ
 done x = Ok x
 
+abbrev fault_of : (A : Type 0) → ℕ → Result A ℕ
+fault_of A left = Err left
+
 pub ok_is : {A : Type 0} (x y : A) → done x ≡ done y → x ≡ y
 ok_is x y e = cc
 
@@ -55,10 +58,17 @@ pub record Takes (bytes text rest : List ℕ) : Type 0 where
 pub Takes-then : (a x b y c : List ℕ) → Takes a x b → Takes b y c → Takes a (x ++ y) c
 Takes-then a x b y c p q = record { parts = p.parts ∙ ap (λ (t : List ℕ). x ++ t) q.parts ∙ sym (append_assoc x y c); rest_fits = q.rest_fits }
 
--- what read reads is what spell spells, of the values that fit
+-- what read reads is what spell spells, of values that fit
+abbrev pub Taking : {A : Type 0} → (List ℕ → Reads A) → (A → List ℕ) → (A → Type 0) → Type 0
+Taking {A} read spell Fits = (bytes : List ℕ) (x : A) (rest : List ℕ) → IsBytes bytes → read bytes ≡ Ok (x, rest) → Takes bytes (spell x) rest × Fits x
+
+-- what spell spells is read, of the values that fit
+abbrev pub ReadAgain : {A : Type 0} → (List ℕ → Reads A) → (A → List ℕ) → (A → Type 0) → Type 0
+ReadAgain {A} read spell Fits = (x : A) (rest : List ℕ) → Fits x → read (spell x ++ rest) ≡ Ok (x, rest)
+
 pub record IsCodec {A : Type 0} (read : List ℕ → Reads A) (spell : A → List ℕ) (Fits : A → Type 0) : Type 0 where
-  pub takes : (bytes : List ℕ) (x : A) (rest : List ℕ) → IsBytes bytes → read bytes ≡ Ok (x, rest) → Takes bytes (spell x) rest × Fits x
-  pub again : (x : A) (rest : List ℕ) → Fits x → read (spell x ++ rest) ≡ Ok (x, rest)
+  pub takes : Taking read spell Fits
+  pub again : ReadAgain read spell Fits
 
 -- ---- numbers
 
@@ -180,3 +190,31 @@ name_codec w limit wide least most small passes len = record {
       subst (λ (p : List ℕ × List ℕ). Takes bytes (text w p.0) p.1 × (passes p.0 ≡ true)) g.1 (u.0, g.0);
   again = λ t rest h. rw ((text_codec w limit wide least most small).again t rest (len t h), h) refl;
 }
+
+-- ---- tags
+
+pub u8_codec : IsCodec (number_at w8) (to_be_bytes w8) (λ n. n < 2 ^ 8)
+u8_codec = number_codec w8 (2 ^ 8) wide8
+
+-- a tag that was read is the first byte
+pub tagged : (bytes after : List ℕ) (b n : ℕ) → Takes bytes (to_be_bytes w8 b) after → eqb b n ≡ true → n < 256 → bytes ≡ n ∷ after
+tagged bytes after b n t e small =
+    let same : b ≡ n = eqb-true _ _ e in
+    let byte : n % 256 ≡ n = omega arith in
+    t.parts ∙ ap (λ (k : ℕ). to_be_bytes w8 k ++ after) same ∙ ap (λ (k : ℕ). k ∷ after) (omega arith)
+
+-- what was read behind a tag, if it is that one
+pub by_tag : {A : Type 0} (spell : A → List ℕ) (Fits : A → Type 0) (bytes after : List ℕ) (b n : ℕ) (first others : Reads A) (x : A) (rest : List ℕ) → Takes bytes (to_be_bytes w8 b) after → n < 256
+    → (first ≡ Ok (x, rest) → Takes (n ∷ after) (spell x) rest × Fits x) → (others ≡ Ok (x, rest) → Takes bytes (spell x) rest × Fits x) → cond (eqb b n) first others ≡ Ok (x, rest) → Takes bytes (spell x) rest × Fits x
+by_tag {A} spell Fits bytes after b n first others x rest t small here later e =
+    elim (chosen (eqb b n) first others (x, rest) e) [
+      | inl h ↦ subst (λ (w : List ℕ). Takes w (spell x) rest × Fits x) (sym (tagged bytes after b n t h.0 small)) (here h.1)
+      | inr h ↦ later h.1
+    ]
+
+-- a fault reads nothing
+pub no_value : {A : Type 0} (left : ℕ) (x : A) (P : Type 0) → fault_of A left ≡ Ok x → P
+no_value {A} left x P e = absurd cc
+
+pub behind : (n : ℕ) (bytes text rest : List ℕ) → Takes bytes text rest → Takes (n ∷ bytes) (n ∷ text) rest
+behind n bytes text rest t = record { parts = ap (λ (w : List ℕ). n ∷ w) t.parts; rest_fits = t.rest_fits }

@@ -1,7 +1,10 @@
 pub mod LawfulNames
 pub mod Parts
+pub mod RuleTrees
 pub mod Codecs
 pub mod Many
+pub mod RuleLaws
 pub mod Laws
+pub mod EntryLaws
 pub mod Batches
 pub mod Places

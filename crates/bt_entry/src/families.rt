@@ -1,20 +1,21 @@
 //! The families of a table, read from the left.
-ghost use Rattle.std.specs.Prelude.{◌≡◌, ◌==◌, nat_le};
-ghost use Rattle.std.specs.Int.{w8, w16};
+ghost use Rattle.std.specs.Prelude.{◌≡◌, nat_le};
+ghost use Rattle.std.specs.Int.{w16};
 ghost use Rattle.bt_entry.specs.Grammar.{most_families, last_name};
-ghost use Rattle.bt_entry.specs.Reading.{Gives, counted_at, families_at, family_at, number_with};
+ghost use Rattle.bt_entry.specs.Reading.{Gives, families_at, family_at, family_list_at, number_with};
 
 use crate::fault::Fault;
-use crate::fields::{u8_at, u16_at};
+use crate::fields::u16_at;
 use crate::names::next_family_name_at;
-use crate::{Families, Family};
+use crate::rules::rule_or_none_at;
+use bt_rules::{Families, Family};
 use std::alloc::Global;
 
 const MOST_FAMILIES: u16 = 100;
 
 #[tactic(auto, unfolding(crate::specs::Reading::counted_at))]
 pub(crate) fn family_list_at(alloc: Global, bytes: &[u8]) -> Result<(Families, &[u8]), Fault>
-    ensures { Gives (λ x. (x.0, x.1.now)) result (counted_at w16 (λ n. nat_le n most_families) families_at bytes.now) }
+    ensures { Gives (λ x. (x.0, x.1.now)) result (family_list_at bytes.now) }
 {
     let (count, rest) = family_count_at(bytes)?;
     families_at(alloc, count, rest)
@@ -59,18 +60,6 @@ fn family_at<'a>(alloc: Global, before: &[u8], bytes: &'a [u8]) -> Result<(Famil
     ensures { Gives (λ x. (x.0, x.1.now)) result (family_at before.now bytes.now) }
 {
     let (name, rest) = next_family_name_at(alloc, before, bytes)?;
-    let (_, rest) = no_rule_at(rest)?;
-    Ok((Family { name }, rest))
-}
-
-// The tag of a collection rule. No rule can be written yet.
-#[tactic(auto, unfolding(crate::specs::Reading::number_with))]
-fn no_rule_at(bytes: &[u8]) -> Result<(u8, &[u8]), Fault>
-    ensures { Gives (λ x. (x.0, x.1.now)) result (number_with w8 (λ n. n == 0) bytes.now) }
-{
-    let (tag, rest) = u8_at(bytes)?;
-    if tag != 0 {
-        return Err(Fault::Bad { left: bytes.len() });
-    }
-    Ok((tag, rest))
+    let (rule, rest) = rule_or_none_at(alloc, rest)?;
+    Ok((Family { name, rule }, rest))
 }

@@ -3,6 +3,7 @@ ghost use Rattle.std.specs.Prelude.{◌≡◌};
 ghost use Rattle.bt_entry.specs.declared.fault.Fault.TheVariants as fault;
 
 use bt_base::OutOfMemory;
+use std::alloc::AllocError;
 
 /// Why bytes were not read as a batch.
 #[derive(Clone, Copy, Debug, PartialEq, Eq)]
@@ -28,6 +29,14 @@ impl From<OutOfMemory> for Fault {
     ghost from_gives = { λ _ e. e ≡ fault.OutOfMemory };
 
     fn from(_: OutOfMemory) -> Self {
+        Fault::OutOfMemory
+    }
+}
+
+impl From<AllocError> for Fault {
+    ghost from_gives = { λ _ e. e ≡ fault.OutOfMemory };
+
+    fn from(_: AllocError) -> Self {
         Fault::OutOfMemory
     }
 }

@@ -4,8 +4,8 @@ ghost use Rattle.std.specs.Prelude.{◌≡◌, nat_le, if◌then◌else◌, Some
 ghost use Rattle.std.specs.Int.{w8, w16, w32, w64};
 ghost use Rattle.bt_types.specs.Grammar.{is_qualifier, is_row_key};
 ghost use Rattle.bt_types.specs.Time.{is_micros};
-ghost use Rattle.bt_entry.specs.Grammar.{last_moment, most_of_value};
-ghost use Rattle.bt_entry.specs.Reading.{Gives, number_at, number_with, text_at, text_with};
+ghost use Rattle.bt_entry.specs.Grammar.{is_retention, last_moment, most_of_value};
+ghost use Rattle.bt_entry.specs.Reading.{Gives, number_at, number_with, text_at, text_with, time_at};
 
 use crate::fault::Fault;
 use bt_base::Blob;
@@ -13,6 +13,13 @@ use bt_types::{Micros, Qualifier, RowKey};
 use std::alloc::Global;
 
 const LAST_MOMENT: u64 = 253_402_300_799_999_999;
+
+const LAST_TIME: u64 = 9_223_372_036_854_775_807;
+
+// One day and seven days.
+const LEAST_RETENTION: u64 = 86_400_000_000;
+
+const MOST_RETENTION: u64 = 604_800_000_000;
 
 const MOST_OF_VALUE: usize = 4_194_304;
 
@@ -83,6 +90,35 @@ pub(crate) fn moment_at(bytes: &[u8]) -> Result<(u64, &[u8]), Fault>
         return Err(Fault::Bad { left: bytes.len() });
     }
     Ok((moment, rest))
+}
+
+// A start or an end of the times that are removed of a column.
+#[tactic(auto, unfolding(crate::specs::Reading::number_with))]
+pub(crate) fn time_at(bytes: &[u8]) -> Result<(u64, &[u8]), Fault>
+    ensures { Gives (λ x. (x.0, x.1.now)) result (time_at bytes.now) }
+{
+    let (time, rest) = u64_at(bytes)?;
+    if time > LAST_TIME {
+        return Err(Fault::Bad { left: bytes.len() });
+    }
+    Ok((time, rest))
+}
+
+#[tactic(auto, unfolding(crate::specs::Reading::number_with))]
+pub(crate) fn retention_at(bytes: &[u8]) -> Result<(u64, &[u8]), Fault>
+    ensures { Gives (λ x. (x.0, x.1.now)) result (number_with w64 is_retention bytes.now) }
+{
+    let (retention, rest) = u64_at(bytes)?;
+    if !is_retention(retention) {
+        return Err(Fault::Bad { left: bytes.len() });
+    }
+    Ok((retention, rest))
+}
+
+fn is_retention(retention: u64) -> bool
+    ensures { result ≡ is_retention retention }
+{
+    retention == 0 || (LEAST_RETENTION <= retention && retention <= MOST_RETENTION)
 }
 
 #[tactic(auto, unfolding(crate::specs::Reading::number_with))]

@@ -1,27 +1,30 @@
 //! Entries of the write-ahead log, and their one spelling in bytes.
 #![tactic(auto)]
 
+mod entries;
 mod entry;
 mod families;
 mod fault;
 mod fields;
+mod fitting;
 mod mutations;
 mod names;
 mod numbered;
 mod reading;
+mod rules;
 mod table_info;
 mod writing;
+mod writing_families;
+mod writing_fields;
 
 use bt_base::ListOf;
-pub use entry::{Entry, Family};
+pub use entry::Entry;
 pub use fault::BatchRefusal;
+pub use fitting::fits;
 pub use numbered::Numbered;
 pub use reading::read_batch;
 pub use table_info::TableInfo;
 pub use writing::write_batch;
-
-/// Families of a table, names ascending.
-pub type Families = ListOf<Family>;
 
 /// Entries that are appended to the log together, in order.
 pub type Batch = ListOf<Numbered>;

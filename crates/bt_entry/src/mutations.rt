@@ -1,10 +1,10 @@
 //! The mutations of a row, read from the left.
 ghost use Rattle.std.specs.Prelude.{nat_le};
 ghost use Rattle.std.specs.Int.{w32};
-ghost use Rattle.bt_entry.specs.Reading.{Gives, counted_at, mutation_at, mutations_at, set_cell_at};
+ghost use Rattle.bt_entry.specs.Reading.{Gives, counted_at, delete_column_at, delete_family_at, mutation_at, mutations_at, set_cell_at};
 
 use crate::fault::Fault;
-use crate::fields::{count_at, micros_at, qualifier_at, u8_at, value_at};
+use crate::fields::{count_at, micros_at, qualifier_at, time_at, u8_at, value_at};
 use crate::names::family_name_at;
 use bt_types::{Mutation, MutationList};
 use std::alloc::Global;
@@ -37,6 +37,9 @@ fn mutation_at(alloc: Global, bytes: &[u8]) -> Result<(Mutation, &[u8]), Fault>
     let (tag, rest) = u8_at(bytes)?;
     match tag {
         1 => set_cell_at(alloc, rest),
+        2 => delete_column_at(alloc, rest),
+        3 => delete_family_at(alloc, rest),
+        4 => Ok((Mutation::DeleteRow, rest)),
         _ => Err(Fault::Bad { left: bytes.len() }),
     }
 }
@@ -59,4 +62,29 @@ fn set_cell_at(alloc: Global, bytes: &[u8]) -> Result<(Mutation, &[u8]), Fault>
         value,
     };
     Ok((mutation, rest))
+}
+
+#[tactic(auto, unfolding(crate::specs::Reading::delete_column_at))]
+fn delete_column_at(alloc: Global, bytes: &[u8]) -> Result<(Mutation, &[u8]), Fault>
+    ensures { Gives (λ x. (x.0, x.1.now)) result (delete_column_at bytes.now) }
+{
+    let (family, rest) = family_name_at(alloc, bytes)?;
+    let (qualifier, rest) = qualifier_at(alloc, rest)?;
+    let (start, rest) = time_at(rest)?;
+    let (end, rest) = time_at(rest)?;
+    let mutation = Mutation::DeleteColumn {
+        family,
+        qualifier,
+        start,
+        end,
+    };
+    Ok((mutation, rest))
+}
+
+#[tactic(auto, unfolding(crate::specs::Reading::delete_family_at))]
+fn delete_family_at(alloc: Global, bytes: &[u8]) -> Result<(Mutation, &[u8]), Fault>
+    ensures { Gives (λ x. (x.0, x.1.now)) result (delete_family_at bytes.now) }
+{
+    let (family, rest) = family_name_at(alloc, bytes)?;
+    Ok((Mutation::DeleteFamily { family }, rest))
 }

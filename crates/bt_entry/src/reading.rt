@@ -1,17 +1,14 @@
 //! The batch that bytes spell.
-ghost use Rattle.std.specs.Prelude.{◌≡◌, ◌≤◌, ◌==◌, List, IfOk, Ok, nat_le};
-ghost use Rattle.std.specs.Int.{w32, w64};
+ghost use Rattle.std.specs.Prelude.{◌≡◌, ◌≤◌, List, IfOk, Ok};
 ghost use Rattle.bt_entry.specs.declared.numbered.Numbered.{Numbered};
 ghost use Rattle.bt_entry.specs.Grammar.{AreNumbered, IsSpellable};
 ghost use Rattle.bt_entry.specs.Spelling.{spelling};
-ghost use Rattle.bt_entry.specs.Reading.{Answers, Gives, batch_at, batch_in, create_at, entries_at, entry_at, number_with, numbered_at, row_at};
+ghost use Rattle.bt_entry.specs.Reading.{Answers, Gives, batch_at, batch_in, entries_at, numbered_at};
 
-use crate::families::family_list_at;
+use crate::entries::entry_at;
 use crate::fault::Fault;
-use crate::fields::{count_at, key_at, moment_at, u8_at, u64_at};
-use crate::mutations::mutation_list_at;
-use crate::names::table_name_at;
-use crate::{Batch, BatchRefusal, Entry, Numbered};
+use crate::fields::{count_at, moment_at};
+use crate::{Batch, BatchRefusal, Numbered};
 use std::alloc::Global;
 
 /// The batch that the bytes spell, with entries numbered on from `first`.
@@ -19,7 +16,8 @@ use std::alloc::Global;
 /// Nothing is read that the format does not have: nothing may stand behind the last entry. The
 /// field at which reading stops is a number, a tag, a count, a length, or the bytes of a text: a
 /// length that its text cannot have stops it at the length, and a text that is no lawful name at
-/// its bytes.
+/// its bytes. A rule of more than 8 levels stops it at the tag of the node on the ninth, and one of
+/// more than 32 nodes at the count that announces the 33rd.
 pub fn read_batch(alloc: Global, bytes: &[u8], first: u64) -> Result<Batch, BatchRefusal>
     requires { first ≤ 9223372036854775807 }
     // What is read is spelled so.
@@ -78,53 +76,4 @@ fn numbered_at(alloc: Global, sequence: u64, bytes: &[u8]) -> Result<(Numbered, 
         entry,
     };
     Ok((numbered, rest))
-}
-
-#[tactic(auto, unfolding(crate::specs::Reading::entry_at))]
-fn entry_at(alloc: Global, bytes: &[u8]) -> Result<(Entry, &[u8]), Fault>
-    ensures { Gives (λ x. (x.0, x.1.now)) result (entry_at bytes.now) }
-{
-    let (tag, rest) = u8_at(bytes)?;
-    match tag {
-        1 => row_at(alloc, rest),
-        3 => create_at(alloc, rest),
-        _ => Err(Fault::Bad { left: bytes.len() }),
-    }
-}
-
-#[tactic(auto, unfolding(crate::specs::Reading::row_at))]
-fn row_at(alloc: Global, bytes: &[u8]) -> Result<(Entry, &[u8]), Fault>
-    ensures { Gives (λ x. (x.0, x.1.now)) result (row_at bytes.now) }
-{
-    let (incarnation, rest) = u64_at(bytes)?;
-    let (key, rest) = key_at(alloc, rest)?;
-    let (mutations, rest) = mutation_list_at(alloc, rest)?;
-    let entry = Entry::Row {
-        incarnation,
-        key,
-        mutations,
-    };
-    Ok((entry, rest))
-}
-
-#[tactic(auto, unfolding(crate::specs::Reading::create_at))]
-fn create_at(alloc: Global, bytes: &[u8]) -> Result<(Entry, &[u8]), Fault>
-    ensures { Gives (λ x. (x.0, x.1.now)) result (create_at bytes.now) }
-{
-    let (name, rest) = table_name_at(alloc, bytes)?;
-    let (families, rest) = family_list_at(alloc, rest)?;
-    let (_, rest) = no_retention_at(rest)?;
-    Ok((Entry::Create { name, families }, rest))
-}
-
-// For how long changes are kept for streams. No stream can be written yet.
-#[tactic(auto, unfolding(crate::specs::Reading::number_with))]
-fn no_retention_at(bytes: &[u8]) -> Result<(u64, &[u8]), Fault>
-    ensures { Gives (λ x. (x.0, x.1.now)) result (number_with w64 (λ n. n == 0) bytes.now) }
-{
-    let (retention, rest) = u64_at(bytes)?;
-    if retention != 0 {
-        return Err(Fault::Bad { left: bytes.len() });
-    }
-    Ok((retention, rest))
 }

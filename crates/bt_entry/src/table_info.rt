@@ -1,6 +1,6 @@
 //! What is known of a table besides its rows.
-use crate::Families;
 use bt_base::{OutOfMemory, Plain};
+use bt_rules::Families;
 use bt_types::TableName;
 use std::alloc::Global;
 

@@ -1,13 +1,17 @@
 //! The one spelling of a batch.
-ghost use Rattle.std.specs.Prelude.{◌≡◌, ◌++◌, ◌∷◌, [], ◌<◌, ◌≤◌, ◌^◌, length, IsTrue, OnOk, IfOk};
-ghost use Rattle.bt_types.specs.Grammar.{is_family_name, is_qualifier, is_row_key, is_table_name};
-ghost use Rattle.bt_types.specs.Time.{is_micros};
-ghost use Rattle.std.specs.Int.{w8, w16, w32, w64, to_be_bytes};
-ghost use Rattle.bt_entry.specs.Grammar.{Ascend, IsInOrder, most_families, most_of_value, IsSpellable, IsSpellableEntry, IsSpellableMutation, IsSpellableMutations, IsSpellableNumbered, IsWritable, IsWritableEntry, IsWritableMutation, IsWritableMutations, IsWritableNumbered};
-ghost use Rattle.bt_entry.specs.Spelling.{entry, family, list, mutation, numbered, spelling, text};
+ghost use Rattle.std.specs.Prelude.{◌≡◌, ◌++◌, IsTrue, OnOk, IfOk};
+ghost use Rattle.std.specs.Int.{w32};
+ghost use Rattle.bt_entry.specs.Grammar.{AreWritableFamilies, IsSpellable, IsSpellableEntry, IsSpellableMutation, IsSpellableMutations, IsSpellableNumbered, RulesFitIn, is_retention, IsWritable, IsWritableEntry, IsWritableMutation, IsWritableMutations, IsWritableNumbered};
+ghost use Rattle.bt_entry.specs.Spelling.{entry, list, mutation, numbered, row_tag, spelling};
 
-use crate::{Batch, Entry, Families, Family, Numbered};
+use crate::writing_families::put_families;
+use crate::writing_fields::{
+    put_family_name, put_key, put_micros, put_qualifier, put_table_name, put_u32, put_u64,
+    put_value,
+};
+use crate::{Batch, Entry, Numbered};
 use bt_base::{Blob, OutOfMemory};
+use bt_rules::Families;
 use bt_types::{FamilyName, Micros, Mutation, MutationList, Qualifier, RowKey, TableName};
 use std::alloc::{AllocError, Global};
 
@@ -41,6 +45,7 @@ fn put_numbered(out: &mut Vec<u8>, n: &Numbered) -> Result<(), AllocError>
     requires { IsWritableNumbered n.now }
     ensures spelled { OnOk result (out.new.items ≡ out.old.items ++ numbered n.now) }
     ensures spellable { OnOk result (IsSpellableNumbered n.now) }
+    ensures fits { OnOk result (RulesFitIn n.now.entry) }
 {
     put_u64(out, n.moment)?;
     put_entry(out, &n.entry)
@@ -50,25 +55,108 @@ fn put_entry(out: &mut Vec<u8>, e: &Entry) -> Result<(), AllocError>
     requires { IsWritableEntry e.now }
     ensures spelled { OnOk result (out.new.items ≡ out.old.items ++ entry e.now) }
     ensures spellable { OnOk result (IsSpellableEntry e.now) }
+    ensures fits { OnOk result (RulesFitIn e.now) }
 {
     match e {
         Entry::Row {
             incarnation,
             key,
+            by_rule,
             mutations,
-        } => {
-            out.push(1)?;
-            put_u64(out, *incarnation)?;
-            put_key(out, key)?;
-            put_mutations(out, mutations)?;
-        }
-        Entry::Create { name, families } => {
-            out.push(3)?;
-            put_table_name(out, name)?;
-            put_families(out, families)?;
-            put_u64(out, 0)?;
+        } => put_row(out, *incarnation, key, *by_rule, mutations),
+        Entry::Create {
+            name,
+            families,
+            retention,
+        } => put_create(out, name, families, *retention),
+        Entry::Delete { incarnation } => put_delete(out, *incarnation),
+        Entry::Alter {
+            incarnation,
+            families,
+        } => put_alter(out, *incarnation, families),
+        Entry::Stream {
+            incarnation,
+            retention,
+        } => put_stream(out, *incarnation, *retention),
+        Entry::Floor => {
+            out.push(7)?;
+            Ok(())
         }
     }
+}
+
+fn put_row(
+    out: &mut Vec<u8>,
+    incarnation: u64,
+    key: &RowKey,
+    by_rule: bool,
+    mutations: &MutationList,
+) -> Result<(), AllocError>
+    requires { IsWritableMutations mutations.now }
+    ensures spelled { OnOk result (out.new.items ≡ out.old.items ++ entry (Entry.Row incarnation key.now by_rule mutations.now)) }
+    ensures spellable { OnOk result (IsSpellableEntry (Entry.Row incarnation key.now by_rule mutations.now)) }
+{
+    let tag = row_tag(by_rule);
+    out.push(tag)?;
+    put_u64(out, incarnation)?;
+    put_key(out, key)?;
+    put_mutations(out, mutations)?;
+    Ok(())
+}
+
+fn row_tag(by_rule: bool) -> u8
+    ensures { result ≡ row_tag by_rule }
+{
+    if by_rule { 2 } else { 1 }
+}
+
+fn put_create(
+    out: &mut Vec<u8>,
+    name: &TableName,
+    families: &Families,
+    retention: u64,
+) -> Result<(), AllocError>
+    requires families { AreWritableFamilies families.now }
+    requires retention { IsTrue (is_retention retention) }
+    ensures spelled { OnOk result (out.new.items ≡ out.old.items ++ entry (Entry.Create name.now families.now retention)) }
+    ensures spellable { OnOk result (IsSpellableEntry (Entry.Create name.now families.now retention)) }
+    ensures fits { OnOk result (RulesFitIn (Entry.Create name.now families.now retention)) }
+{
+    out.push(3)?;
+    put_table_name(out, name)?;
+    put_families(out, families)?;
+    put_u64(out, retention)?;
+    Ok(())
+}
+
+fn put_delete(out: &mut Vec<u8>, incarnation: u64) -> Result<(), AllocError>
+    ensures spelled { OnOk result (out.new.items ≡ out.old.items ++ entry (Entry.Delete incarnation)) }
+    ensures spellable { OnOk result (IsSpellableEntry (Entry.Delete incarnation)) }
+{
+    out.push(4)?;
+    put_u64(out, incarnation)
+}
+
+fn put_alter(out: &mut Vec<u8>, incarnation: u64, families: &Families) -> Result<(), AllocError>
+    requires { AreWritableFamilies families.now }
+    ensures spelled { OnOk result (out.new.items ≡ out.old.items ++ entry (Entry.Alter incarnation families.now)) }
+    ensures spellable { OnOk result (IsSpellableEntry (Entry.Alter incarnation families.now)) }
+    ensures fits { OnOk result (RulesFitIn (Entry.Alter incarnation families.now)) }
+{
+    out.push(5)?;
+    put_u64(out, incarnation)?;
+    put_families(out, families)?;
+    Ok(())
+}
+
+fn put_stream(out: &mut Vec<u8>, incarnation: u64, retention: u64) -> Result<(), AllocError>
+    requires { IsTrue (is_retention retention) }
+    ensures spelled { OnOk result (out.new.items ≡ out.old.items ++ entry (Entry.Stream incarnation retention)) }
+    ensures spellable { OnOk result (IsSpellableEntry (Entry.Stream incarnation retention)) }
+{
+    out.push(6)?;
+    put_u64(out, incarnation)?;
+    put_u64(out, retention)?;
     Ok(())
 }
 
@@ -96,114 +184,63 @@ fn put_mutation(out: &mut Vec<u8>, m: &Mutation) -> Result<(), AllocError>
             qualifier,
             at,
             value,
-        } => {
-            out.push(1)?;
-            put_family_name(out, family)?;
-            put_qualifier(out, qualifier)?;
-            put_micros(out, *at)?;
-            put_value(out, value)?;
+        } => put_set_cell(out, family, qualifier, *at, value),
+        Mutation::DeleteColumn {
+            family,
+            qualifier,
+            start,
+            end,
+        } => put_delete_column(out, family, qualifier, *start, *end),
+        Mutation::DeleteFamily { family } => put_delete_family(out, family),
+        Mutation::DeleteRow => {
+            out.push(4)?;
             Ok(())
         }
-        _ => unreachable!(),
     }
 }
 
-fn put_families(out: &mut Vec<u8>, families: &Families) -> Result<(), AllocError>
-    requires { (length families.now ≤ most_families) × IsInOrder families.now }
-    ensures spelled { OnOk result (out.new.items ≡ out.old.items ++ list w16 family families.now) }
-    ensures spellable { OnOk result (Ascend families.now) }
+fn put_set_cell(
+    out: &mut Vec<u8>,
+    family: &FamilyName,
+    qualifier: &Qualifier,
+    at: Micros,
+    value: &Blob,
+) -> Result<(), AllocError>
+    requires { IsWritableMutation (Mutation.SetCell family.now qualifier.now at value.now) }
+    ensures spelled { OnOk result (out.new.items ≡ out.old.items ++ mutation (Mutation.SetCell family.now qualifier.now at value.now)) }
+    ensures spellable { OnOk result (IsSpellableMutation (Mutation.SetCell family.now qualifier.now at value.now)) }
 {
-    let families = families.items();
-    put_u16(out, families.len() as u16)?;
-    for family in families {
-        put_family(out, family)?;
-    }
+    out.push(1)?;
+    put_family_name(out, family)?;
+    put_qualifier(out, qualifier)?;
+    put_micros(out, at)?;
+    put_value(out, value)?;
     Ok(())
 }
 
-fn put_family(out: &mut Vec<u8>, f: &Family) -> Result<(), AllocError>
-    ensures spelled { OnOk result (out.new.items ≡ out.old.items ++ family f.now) }
-    ensures lawful { OnOk result (IsTrue (is_family_name f.now.name)) }
+fn put_delete_column(
+    out: &mut Vec<u8>,
+    family: &FamilyName,
+    qualifier: &Qualifier,
+    start: u64,
+    end: u64,
+) -> Result<(), AllocError>
+    requires { IsWritableMutation (Mutation.DeleteColumn family.now qualifier.now start end) }
+    ensures spelled { OnOk result (out.new.items ≡ out.old.items ++ mutation (Mutation.DeleteColumn family.now qualifier.now start end)) }
+    ensures spellable { OnOk result (IsSpellableMutation (Mutation.DeleteColumn family.now qualifier.now start end)) }
 {
-    put_family_name(out, &f.name)?;
-    out.push(0)?;
+    out.push(2)?;
+    put_family_name(out, family)?;
+    put_qualifier(out, qualifier)?;
+    put_u64(out, start)?;
+    put_u64(out, end)?;
     Ok(())
 }
 
-fn put_family_name(out: &mut Vec<u8>, name: &FamilyName) -> Result<(), AllocError>
-    ensures spelled { OnOk result (out.new.items ≡ out.old.items ++ text w8 name.now) }
-    ensures lawful { IsTrue (is_family_name name.now) }
+fn put_delete_family(out: &mut Vec<u8>, family: &FamilyName) -> Result<(), AllocError>
+    ensures spelled { OnOk result (out.new.items ≡ out.old.items ++ mutation (Mutation.DeleteFamily family.now)) }
+    ensures spellable { OnOk result (IsSpellableMutation (Mutation.DeleteFamily family.now)) }
 {
-    put_text8(out, name.bytes())
-}
-
-fn put_table_name(out: &mut Vec<u8>, name: &TableName) -> Result<(), AllocError>
-    ensures spelled { OnOk result (out.new.items ≡ out.old.items ++ text w16 name.now) }
-    ensures lawful { IsTrue (is_table_name name.now) }
-{
-    put_text16(out, name.bytes())
-}
-
-fn put_key(out: &mut Vec<u8>, key: &RowKey) -> Result<(), AllocError>
-    ensures spelled { OnOk result (out.new.items ≡ out.old.items ++ text w16 key.now) }
-    ensures lawful { IsTrue (is_row_key key.now) }
-{
-    put_text16(out, key.bytes())
-}
-
-fn put_qualifier(out: &mut Vec<u8>, qualifier: &Qualifier) -> Result<(), AllocError>
-    ensures spelled { OnOk result (out.new.items ≡ out.old.items ++ text w16 qualifier.now) }
-    ensures lawful { IsTrue (is_qualifier qualifier.now) }
-{
-    put_text16(out, qualifier.bytes())
-}
-
-fn put_micros(out: &mut Vec<u8>, at: Micros) -> Result<(), AllocError>
-    ensures spelled { OnOk result (out.new.items ≡ out.old.items ++ to_be_bytes w64 at) }
-    ensures lawful { IsTrue (is_micros at) }
-{
-    put_u64(out, at.number() as u64)
-}
-
-fn put_value(out: &mut Vec<u8>, value: &Blob) -> Result<(), AllocError>
-    requires { length value.now ≤ most_of_value }
-    ensures { OnOk result (out.new.items ≡ out.old.items ++ text w32 value.now) }
-{
-    let bytes = value.bytes();
-    put_u32(out, bytes.len() as u32)?;
-    out.extend_from_slice(bytes)
-}
-
-fn put_text8(out: &mut Vec<u8>, bytes: &[u8]) -> Result<(), AllocError>
-    requires { length bytes.now < 2 ^ 8 }
-    ensures { OnOk result (out.new.items ≡ out.old.items ++ text w8 bytes.now) }
-{
-    out.push(bytes.len() as u8)?;
-    out.extend_from_slice(bytes)
-}
-
-fn put_text16(out: &mut Vec<u8>, bytes: &[u8]) -> Result<(), AllocError>
-    requires { length bytes.now < 2 ^ 16 }
-    ensures { OnOk result (out.new.items ≡ out.old.items ++ text w16 bytes.now) }
-{
-    put_u16(out, bytes.len() as u16)?;
-    out.extend_from_slice(bytes)
-}
-
-fn put_u16(out: &mut Vec<u8>, n: u16) -> Result<(), AllocError>
-    ensures { OnOk result (out.new.items ≡ out.old.items ++ to_be_bytes w16 n) }
-{
-    out.extend_from_slice(&n.to_be_bytes())
-}
-
-fn put_u32(out: &mut Vec<u8>, n: u32) -> Result<(), AllocError>
-    ensures { OnOk result (out.new.items ≡ out.old.items ++ to_be_bytes w32 n) }
-{
-    out.extend_from_slice(&n.to_be_bytes())
-}
-
-fn put_u64(out: &mut Vec<u8>, n: u64) -> Result<(), AllocError>
-    ensures { OnOk result (out.new.items ≡ out.old.items ++ to_be_bytes w64 n) }
-{
-    out.extend_from_slice(&n.to_be_bytes())
+    out.push(3)?;
+    put_family_name(out, family)
 }

@@ -14,6 +14,20 @@ pub enum AskedMutation {
         at: i64,
         value: Blob,
     },
+    /// The cells of a column from `start` up to and without `end`, in microseconds since 1970; an
+    /// `end` of 0 is without bound (`google.bigtable.v2.Mutation.DeleteFromColumn`).
+    DeleteColumn {
+        family: Blob,
+        qualifier: Blob,
+        start: i64,
+        end: i64,
+    },
+    /// The row's cells of a family (`google.bigtable.v2.Mutation.DeleteFromFamily`).
+    DeleteFamily {
+        family: Blob,
+    },
+    /// All cells of the row (`google.bigtable.v2.Mutation.DeleteFromRow`).
+    DeleteRow,
     /// None of its kinds is set.
     Missing,
 }
@@ -38,6 +52,21 @@ impl Plain for AskedMutation {
                 at: *at,
                 value: value.copy(alloc)?,
             }),
+            AskedMutation::DeleteColumn {
+                family,
+                qualifier,
+                start,
+                end,
+            } => Ok(AskedMutation::DeleteColumn {
+                family: family.copy(alloc)?,
+                qualifier: qualifier.copy(alloc)?,
+                start: *start,
+                end: *end,
+            }),
+            AskedMutation::DeleteFamily { family } => Ok(AskedMutation::DeleteFamily {
+                family: family.copy(alloc)?,
+            }),
+            AskedMutation::DeleteRow => Ok(AskedMutation::DeleteRow),
             AskedMutation::Missing => Ok(AskedMutation::Missing),
         }
     }

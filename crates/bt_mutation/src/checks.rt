@@ -2,12 +2,12 @@
 ghost use Rattle.std.specs.Prelude.{◌≡◌, ◌+◌, ◌^◌, ◌<◌, ◌≤◌, length, IsTrue, OnOk};
 ghost use Rattle.std.specs.List.{AllByRecursion};
 ghost use Rattle.std.specs.Result.{result_err};
-ghost use Rattle.bt_types.specs.Grammar.{is_family_name};
-ghost use Rattle.bt_mutation.specs.Checks.{IsResolvable, first_refusal, has_family, is_asked_time, list_refusal, mutation_refusal};
+ghost use Rattle.bt_types.specs.Grammar.{is_family_name, is_qualifier};
+ghost use Rattle.bt_mutation.specs.Checks.{IsResolvable, column_refusal, family_refusal, first_refusal, has_family, is_asked_time, list_refusal, mutation_refusal};
 
 use crate::asked::SERVER_TIME;
 use crate::{AskedMutation, MutationRefusal};
-use bt_entry::{Families, Family};
+use bt_rules::{Families, Family};
 
 const MOST_OF_QUALIFIER: usize = 16_384;
 
@@ -17,7 +17,8 @@ const MOST_OF_VALUE: usize = 4_194_304;
 /// list must have from 1 to `at_most` mutations (`google.bigtable.v2.MutateRowRequest.mutations`).
 /// Each, in order, must have a kind, the name of one of the families, a qualifier of at most 16,384
 /// bytes, a timestamp that is -1 (the server's time) or a multiple of 1,000 microseconds from 0 on,
-/// and a value of at most 4,194,304 bytes. The answer is the first fault. No memory is taken.
+/// a value of at most 4,194,304 bytes, and times to be removed that are not negative. The answer is
+/// the first fault. No memory is taken.
 pub fn check_list(
     list: &[AskedMutation],
     families: &Families,
@@ -63,12 +64,7 @@ fn check_mutation(
             at,
             value,
         } => {
-            if !has_family(families, family.bytes()) {
-                return Err(MutationRefusal::UnknownFamily { index });
-            }
-            if qualifier.bytes().len() > MOST_OF_QUALIFIER {
-                return Err(MutationRefusal::LongQualifier { index });
-            }
+            check_column(families, family.bytes(), qualifier.bytes(), index)?;
             if !is_asked_time(*at) {
                 return Err(MutationRefusal::BadTimestamp { index });
             }
@@ -77,8 +73,48 @@ fn check_mutation(
             }
             Ok(())
         }
+        AskedMutation::DeleteColumn {
+            family,
+            qualifier,
+            start,
+            end,
+        } => {
+            check_column(families, family.bytes(), qualifier.bytes(), index)?;
+            if *start < 0 || *end < 0 {
+                return Err(MutationRefusal::BadTimeRange { index });
+            }
+            Ok(())
+        }
+        AskedMutation::DeleteFamily { family } => check_family(families, family.bytes(), index),
+        AskedMutation::DeleteRow => Ok(()),
         AskedMutation::Missing => Err(MutationRefusal::Kind { index }),
     }
+}
+
+fn check_column(
+    families: &[Family],
+    family: &[u8],
+    qualifier: &[u8],
+    index: u32,
+) -> Result<(), MutationRefusal>
+    ensures exact { result_err result ≡ column_refusal families.now index family.now qualifier.now }
+    ensures lawful { OnOk result (IsTrue (is_family_name family.now) × IsTrue (is_qualifier qualifier.now)) }
+{
+    check_family(families, family, index)?;
+    if qualifier.len() > MOST_OF_QUALIFIER {
+        return Err(MutationRefusal::LongQualifier { index });
+    }
+    Ok(())
+}
+
+fn check_family(families: &[Family], family: &[u8], index: u32) -> Result<(), MutationRefusal>
+    ensures exact { result_err result ≡ family_refusal families.now index family.now }
+    ensures lawful { OnOk result (IsTrue (is_family_name family.now)) }
+{
+    if !has_family(families, family) {
+        return Err(MutationRefusal::UnknownFamily { index });
+    }
+    Ok(())
 }
 
 // A name that a family has is lawful, by the type of families.

@@ -18,4 +18,6 @@ pub enum MutationRefusal {
     BadTimestamp { index: u32 },
     /// The value has more than 4,194,304 bytes.
     TooLarge { index: u32 },
+    /// The start or the end of the times to be removed is negative.
+    BadTimeRange { index: u32 },
 }

@@ -59,6 +59,21 @@ fn resolve_mutation(
             at: time_used(at, moment),
             value,
         }),
+        AskedMutation::DeleteColumn {
+            family,
+            qualifier,
+            start,
+            end,
+        } => Ok(Mutation::DeleteColumn {
+            family: lawful_family(alloc, family.bytes())?,
+            qualifier: lawful_qualifier(alloc, qualifier.bytes())?,
+            start: start as u64,
+            end: end as u64,
+        }),
+        AskedMutation::DeleteFamily { family } => Ok(Mutation::DeleteFamily {
+            family: lawful_family(alloc, family.bytes())?,
+        }),
+        AskedMutation::DeleteRow => Ok(Mutation::DeleteRow),
         AskedMutation::Missing => unreachable!(),
     }
 }

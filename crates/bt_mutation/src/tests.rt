@@ -1,6 +1,6 @@
 use super::*;
 use bt_base::{Blob, Plain};
-use bt_entry::{Families, Family};
+use bt_rules::{Families, Family};
 use bt_types::{FamilyName, Mutation};
 use std::alloc::Global;
 use std::test::Fail;
@@ -25,7 +25,7 @@ fn cell(
 fn families(alloc: Global) -> Result<Families, Fail> {
     let name = FamilyName::new(alloc, "f")?.ok_or("family")?;
     let mut families = Families::new(alloc);
-    families.push(Family { name })?;
+    families.push(Family { name, rule: None })?;
     Ok(families)
 }
 
@@ -102,5 +102,38 @@ fn the_time_of_the_server_is_cut_to_milliseconds(rt: HostRuntime) -> Result<(), 
     let mutations = resolve(alloc, list, 1_234_567)?;
     assert_eq!(rt; time(mutations.items().first()), Some(1_234_000));
     assert_eq!(rt; time(mutations.items().last()), Some(7000));
+    Ok(())
+}
+
+// The cells of the column f:q from `start` to `end`.
+fn times(alloc: Global, start: i64, end: i64) -> Result<AskedMutation, Fail> {
+    Ok(AskedMutation::DeleteColumn {
+        family: Blob::new(alloc, b"f")?,
+        qualifier: Blob::new(alloc, b"q")?,
+        start,
+        end,
+    })
+}
+
+fn bounds(mutation: Option<&Mutation>) -> Option<(u64, u64)> {
+    match mutation {
+        Some(Mutation::DeleteColumn { start, end, .. }) => Some((*start, *end)),
+        _ => None,
+    }
+}
+
+#[test]
+fn times_to_be_removed_are_not_negative(rt: HostRuntime) -> Result<(), Fail> {
+    let alloc = rt.alloc();
+    let early = refusal(alloc, times(alloc, -1, 0)?, 2)?;
+    assert_eq!(rt; early, MutationRefusal::BadTimeRange { index: 1 });
+    let late = refusal(alloc, times(alloc, 7, -2)?, 2)?;
+    assert_eq!(rt; late, MutationRefusal::BadTimeRange { index: 1 });
+    let mut list = AskedMutationList::new(alloc);
+    list.push(times(alloc, 7, 3)?)?;
+    list.push(AskedMutation::DeleteRow)?;
+    check_list(list.items(), &families(alloc)?, 2)?;
+    let mutations = resolve(alloc, list, 1_234_567)?;
+    assert_eq!(rt; bounds(mutations.items().first()), Some((7, 3)));
     Ok(())
 }

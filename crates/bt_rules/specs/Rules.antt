@@ -1,5 +1,5 @@
 -- Rules of collection: which of them are lawful, and which cells they condemn (google.bigtable.admin.v2.GcRule).
-use Rattle.std.specs.Prelude.{◌≡◌, ◌↔◌, ◌≤◌, ℕ, ◌+◌, ◌-◌, max, Bool, false, ◌&&◌, nat_lt, nat_le, IsTrue, List, [], ◌∷◌, length, map, sum, slice_get, Option, Some, None, All, if◌then◌else◌}
+use Rattle.std.specs.Prelude.{◌≡◌, ◌↔◌, ◌≤◌, ℕ, ◌+◌, ◌-◌, max, Bool, true, false, ◌&&◌, nat_lt, nat_le, IsTrue, List, [], ◌∷◌, length, map, sum, slice_get, Option, Some, None, All, if◌then◌else◌}
 use Rattle.std.specs.List.{list_all, list_any}
 use Rattle.bt_types.specs.declared.cell.Cell.{Cell}
 use Rattle.bt_types.specs.Cells.{AreOrdered}
@@ -61,6 +61,11 @@ depth_of = fold-Rule ℕ node_depth
 -- what a column family may have: well formed, at most 8 deep, and of at most 32 nodes
 abbrev pub is_lawful : Rule → Bool
 is_lawful rule = is_well_formed rule && nat_le (depth_of rule) 8 && nat_le (count_of rule) 32
+
+-- no rule, or a lawful one
+abbrev pub is_lawful_or_none : Option Rule → Bool
+is_lawful_or_none None = true
+is_lawful_or_none (Some rule) = is_lawful rule
 
 -- how many of the nodes allowed are left behind a tree that is well formed and no deeper than allowed
 abbrev pub left : Bool → ℕ → ℕ → ℕ → ℕ → Option ℕ
