@@ -1,6 +1,6 @@
-pub mod Cells
 pub mod Entries
-pub mod Indexes
+pub mod Gone
+pub mod InTurn
 pub mod Made
-pub mod Within
-pub mod Steps
+pub mod Maps
+mod Reached

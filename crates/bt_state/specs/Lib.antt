@@ -1,5 +1,2 @@
-pub mod Contents
+pub mod Batches
 pub mod State
-pub mod Places
-pub mod Indexed
-pub mod Ranges

@@ -1,27 +1,20 @@
 -- The abstract service: its tables, its history, and what an entry changes.
-use Rattle.std.specs.Prelude.{◌≡◌, ℕ, ◌+◌, ◌<◌, ◌≤◌, ◌==◌, ◌&&◌, min, max, nat_lt, Bool, true, false, List, [], ◌∷◌, ◌++◌, length, filter, fold, bytes_eq, is_none, unwrap_or, All, Option, None, Some, if◌then◌else◌}
-use Rattle.std.specs.List.{list_any, list_all}
+use Rattle.std.specs.Prelude.{◌≡◌, ℕ, ◌+◌, ◌<◌, ◌≤◌, ◌==◌, ◌&&◌, ◌||◌, min, max, nat_lt, Bool, true, not, List, [], ◌∷◌, ◌++◌, filter, fold, is_none, unwrap_or, All, Option, None, Some, if◌then◌else◌, map, IsTrue}
+use Rattle.std.specs.List.{list_all}
 use Rattle.std.specs.Ordering.{nat_cmp}
-use Rattle.std.specs.Cmp.Lexicographic.{slice_cmp}
-use Rattle.std.specs.Map.{lookup, values_of}
-use Rattle.std.specs.BTreeMap.{insert_entry, is_at}
-use Rattle.bt_types.specs.declared.mutation.Mutation.{Mutation}
-use Rattle.bt_types.specs.declared.mutation.Mutation.TheVariants.{SetCell, DeleteColumn, DeleteFamily, DeleteRow}
+use Rattle.std.specs.List.Sorted.{IsStrictlySortedBy}
+use Rattle.std.specs.Map.{keys_of, lookup, values_of}
+use Rattle.std.specs.BTreeMap.{is_at}
+use Rattle.bt_rules.specs.declared.family.Family.{Family}
 use Rattle.bt_entry.specs.declared.entry.Entry.{Entry}
-use Rattle.bt_entry.specs.declared.entry.Entry.TheVariants.{Row, Create}
-use Rattle.bt_entry.specs.declared.entry.Family.{Family}
+use Rattle.bt_entry.specs.declared.entry.Entry.TheVariants.{Row, Create, Delete, Alter, Stream, Floor}
 use Rattle.bt_entry.specs.declared.numbered.Numbered.{Numbered}
 use Rattle.bt_entry.specs.declared.table_info.TableInfo.{TableInfo}
-use Rattle.bt_entry.specs.Grammar.{IsSpellableEntry, last_moment}
-use Rattle.bt_state.specs.Contents.{Contents, key_is, put_row}
-
--- what is known of the tables, by their names
-abbrev pub Schema : Type 0
-Schema = List (List ℕ × TableInfo)
-
--- the rows of the tables that ever had one, by their incarnations
-abbrev pub AllContents : Type 0
-AllContents = List (ℕ × Contents)
+use Rattle.bt_entry.specs.Grammar.{AreSpellableFamilies, IsSpellableEntry, is_retention, last_moment}
+use Rattle.bt_schema.specs.Schema.{Schema, change_refusal, is_family_of, schema_after, table_at}
+use Rattle.bt_contents.specs.Contents.{Contents, is_used, put_row}
+use Rattle.bt_contents.specs.AllContents.{with_rows, without_rows}
+pub use Rattle.bt_contents.specs.AllContents.{AllContents, rows_of}
 
 -- The tables as they are; the sequence of the last entry, or 0; and the greatest moment of an entry, or 0.
 pub record Present : Type 0 where
@@ -48,40 +41,40 @@ pub record Event : Type 0 where
   pub moment : ℕ
   pub entry : Entry
 
--- the table of that name
-abbrev pub table_of : List ℕ → Schema → Option TableInfo
-table_of name schema = lookup (key_is name) schema
-
--- the first table of that incarnation
-abbrev pub table_at : ℕ → Schema → Option TableInfo
-table_at incarnation [] = None
-table_at incarnation (t ∷ ts) = if t.1.incarnation == incarnation then Some t.1 else table_at incarnation ts
-
--- the rows of that incarnation
-abbrev pub rows_of : ℕ → AllContents → Contents
-rows_of incarnation contents = unwrap_or (lookup (is_at (nat_cmp incarnation)) contents) []
-
--- a table that has no change stream
-abbrev pub new_table : ℕ → List ℕ → List Family → TableInfo
-new_table incarnation name families = record { name = name; incarnation = incarnation; families = families; since = 0; since_moment = 0; retention = 0 }
-
-abbrev pub schema_after : Entry → ℕ → Schema → Schema
-schema_after (Create name families) sequence schema = insert_entry (slice_cmp nat_cmp) schema name (new_table sequence name families)
-schema_after (Row incarnation key mutations) sequence schema = schema
-
--- a new table has no rows
+-- a new table has no rows, and the rows of a deleted one go
 abbrev pub contents_after : Entry → AllContents → AllContents
-contents_after (Create name families) contents = contents
-contents_after (Row incarnation key mutations) contents = insert_entry nat_cmp contents incarnation (put_row key mutations (rows_of incarnation contents))
+contents_after (Row incarnation key by_rule mutations) contents = with_rows incarnation (put_row key mutations (rows_of incarnation contents)) contents
+contents_after (Create name families retention) contents = contents
+contents_after (Delete incarnation) contents = without_rows incarnation contents
+contents_after (Alter incarnation families) contents = contents
+contents_after (Stream incarnation retention) contents = contents
+contents_after Floor contents = contents
 
--- the present after an event: its entry takes the next sequence, and a new table takes that as its incarnation
+-- the entry changes a row
+abbrev pub IsOfRow : Entry → Type 0
+IsOfRow (Row incarnation key by_rule mutations) = Unit {0}
+IsOfRow _ = ⊥
+
+-- the present after an event: its entry takes the next sequence
 abbrev pub present_after : Present → Event → Present
 present_after p e = record {
-  schema = schema_after e.entry (p.last + 1) p.schema;
+  schema = schema_after (p.last + 1) e.moment e.entry p.schema;
   contents = contents_after e.entry p.contents;
   last = p.last + 1;
   floor = e.moment;
 }
+
+-- the present after events, in order
+abbrev pub presents_after : Present → List Event → Present
+presents_after p [] = p
+presents_after p (e ∷ es) = presents_after (present_after p e) es
+
+-- an entry without its sequence
+abbrev pub event_of : Numbered → Event
+event_of n = record { moment = n.moment; entry = n.entry }
+
+abbrev pub events_of : List Numbered → List Event
+events_of batch = map event_of batch
 
 abbrev pub numbered : ℕ → Event → Numbered
 numbered sequence e = record { sequence = sequence; moment = e.moment; entry = e.entry }
@@ -104,41 +97,36 @@ after_records s (r ∷ rs) = after_records (after_record s r) rs
 abbrev pub greatest_sequence : ℕ
 greatest_sequence = 4611686018427387904
 
--- no more tables than this
-abbrev pub most_tables : ℕ
-most_tables = 1000
-
 -- the moment used for a reading of the clock: moments never fall, and none is past the year 9999
 abbrev pub moment_used : ℕ → ℕ → ℕ
 moment_used floor reading = max floor (min reading last_moment)
 
 -- ---- which entries may come
 
-abbrev pub has_family : TableInfo → List ℕ → Bool
-has_family t family = list_any (λ f. bytes_eq f.name family) t.families
+-- each of the families is among these, or has no cell
+abbrev pub keep_used : List Family → List Family → Contents → Bool
+keep_used kept families rows = list_all (λ f. is_family_of kept f.name || not (is_used f.name rows)) families
 
--- a mutation names a family of the table, or none
-abbrev pub is_of_family : TableInfo → Mutation → Bool
-is_of_family t (SetCell family qualifier at value) = has_family t family
-is_of_family t (DeleteColumn family qualifier start end) = has_family t family
-is_of_family t (DeleteFamily family) = has_family t family
-is_of_family t DeleteRow = true
+-- the families of that table
+abbrev pub families_of : Option TableInfo → List Family
+families_of None = []
+families_of (Some t) = t.families
 
-abbrev pub are_of_families : Option TableInfo → List Mutation → Bool
-are_of_families None mutations = false
-are_of_families (Some t) mutations = list_all (is_of_family t) mutations
+-- no family that a row has is taken away
+abbrev pub keeps_rows : Entry → Present → Bool
+keeps_rows (Alter incarnation families) p = keep_used families (families_of (table_at incarnation p.schema)) (rows_of incarnation p.contents)
+keeps_rows _ p = true
 
--- A new table has a name of its own, and there is room for it. A row's table is there, and so are the families that the mutations name.
-abbrev pub is_allowed : Entry → Schema → Bool
-is_allowed (Create name families) schema = is_none (table_of name schema) && nat_lt (length schema) most_tables
-is_allowed (Row incarnation key mutations) schema = are_of_families (table_at incarnation schema) mutations
+-- as far as the tables and their rows tell
+abbrev pub is_allowed : Entry → Present → Bool
+is_allowed e p = is_none (change_refusal e p.schema) && keeps_rows e p
 
 -- the event may come next
 pub record IsLawful (p : Present) (e : Event) : Type 0 where
   pub spellable : IsSpellableEntry e.entry
   pub not_past : e.moment ≤ last_moment
   pub not_before : p.floor ≤ e.moment
-  pub allowed : is_allowed e.entry p.schema ≡ true
+  pub allowed : is_allowed e.entry p ≡ true
 
 -- each may come in turn
 abbrev pub AreLawful : Present → List Event → Type 0
@@ -152,8 +140,8 @@ is_past n e = nat_lt n e.sequence
 
 -- the sequence of an entry of a row of that table, or 0
 abbrev pub sequence_in : ℕ → Entry → ℕ → ℕ
-sequence_in incarnation (Row other key mutations) sequence = if other == incarnation then sequence else 0
-sequence_in incarnation (Create name families) sequence = 0
+sequence_in incarnation (Row other key by_rule mutations) sequence = if other == incarnation then sequence else 0
+sequence_in incarnation _ sequence = 0
 
 -- the greatest of those up to n, or this number
 abbrev pub greatest_lost : ℕ → ℕ → List Numbered → ℕ → ℕ
@@ -179,3 +167,18 @@ AreAged n s = All (λ e. e.sequence ≤ n → e.moment + 604800000000 < s.presen
 -- no table has an incarnation past the last sequence
 abbrev pub AreMade : ℕ → Schema → Type 0
 AreMade last schema = All (λ t. t.incarnation ≤ last) (values_of schema)
+
+-- the rows of tables stand in the order of incarnations
+abbrev pub AreOrdered : AllContents → Type 0
+AreOrdered contents = IsStrictlySortedBy nat_cmp (keys_of contents)
+
+-- the families of each table can be written, and so can its retention
+abbrev pub AreLawfulTables : Schema → Type 0
+AreLawfulTables schema = All (λ t. AreSpellableFamilies t.families × IsTrue (is_retention t.retention)) (values_of schema)
+
+-- what holds of every present
+pub record IsReached (p : Present) : Type 0 where
+  pub made : AreMade p.last p.schema
+  pub within : p.last ≤ greatest_sequence
+  pub ordered : AreOrdered p.contents
+  pub lawful : AreLawfulTables p.schema

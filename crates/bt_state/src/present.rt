@@ -1,18 +1,19 @@
 //! The tables as they are, and the numbers that the next entry depends on.
-ghost use Rattle.std.specs.Prelude.{◌≡◌, ◌↔◌, ◌+◌, ◌<◌, ◌≤◌, [], length, IsTrue, OnOk, OnErr, option_map, unwrap_or};
-ghost use Rattle.std.specs.Ordering.{nat_cmp};
-ghost use Rattle.std.specs.BTreeMap.{insert_entry};
-ghost use Rattle.bt_state.specs.Contents.{put_row};
-ghost use Rattle.bt_state.specs.Places.{AreSets, HaveShort};
-ghost use Rattle.bt_state.specs.State.{IsLawful, greatest_sequence, moment_used, nothing, present_after, rows_of};
+ghost use Rattle.std.specs.Prelude.{◌≡◌, ◌↔◌, ◌+◌, ◌<◌, ◌≤◌, [], Some, length, IfSome, IsTrue, OnOk, OnErr, option_map, unwrap_or};
+ghost use Rattle.bt_entry.specs.Grammar.{AreNumbered, AreSpellableFamilies};
+ghost use Rattle.bt_schema.specs.Schema.{table_at, table_of};
+ghost use Rattle.bt_state.specs.State.{AreLawful, IsLawful, events_of, greatest_sequence, moment_used, nothing, present_after, presents_after, rows_of};
 
-use crate::contents::Contents;
-use crate::schema::Schema;
+use crate::batches::{
+    changed_schema, deleted_tables, floor_after, forget_all, put_schema, row_changes,
+};
+use crate::rows::change_rows;
 use bt_base::OutOfMemory;
-use bt_entry::Entry;
-use bt_types::{MutationList, RowKey};
+use bt_contents::{AllContents, Contents};
+use bt_entry::{Batch, Entry, Numbered, TableInfo};
+use bt_schema::Schema;
+use bt_types::TableName;
 use std::alloc::Global;
-use std::collections::BTreeMap;
 use std::marker::Model;
 
 const GREATEST_SEQUENCE: u64 = 4611686018427387904;
@@ -24,20 +25,24 @@ const GREATEST_MOMENT: u64 = 253402300799999999;
 #[derive(Drop)]
 pub struct Present {
     schema: Schema,
-    // The rows of each table that ever had one, by its incarnation.
-    contents: BTreeMap<u64, Contents>,
+    contents: AllContents,
     last: u64,
     floor: u64,
 }
 
 impl Model for Present {
+    ghost use Rattle.std.specs.Prelude.{◌≤◌};
+    ghost use Rattle.bt_rules.specs.contracts.rule.Rule as rule;
     ghost use Rattle.bt_state.specs.State as states;
+    ghost use Rattle.std.specs.Coded.{codes};
 
     ghost Value = { states.Present };
 
-    ghost view = { λ p. record { schema = p.schema; contents = p.contents.entries; last = p.last; floor = p.floor } };
+    ghost coded = { Prim.hlevel (codes, rule.the_row.coded) };
 
-    ghost invariant = { λ p. states.AreMade p.last p.schema };
+    ghost view = { λ p. record { schema = p.schema; contents = p.contents; last = p.last; floor = p.floor } };
+
+    ghost invariant = { λ p. states.IsReached (record { schema = p.schema; contents = p.contents; last = p.last; floor = p.floor }) };
 }
 
 impl Present {
@@ -47,7 +52,7 @@ impl Present {
     {
         Present {
             schema: Schema::new(alloc),
-            contents: BTreeMap::new(alloc),
+            contents: AllContents::new(alloc),
             last: 0,
             floor: 0,
         }
@@ -59,7 +64,7 @@ impl Present {
     {
         Present {
             schema: Schema::new(alloc),
-            contents: BTreeMap::new(alloc),
+            contents: AllContents::new(alloc),
             last: 0,
             floor,
         }
@@ -71,16 +76,26 @@ impl Present {
         &self.schema
     }
 
-    /// The rows of the table of that incarnation; `None` where it never had one.
+    /// The table of that name. No other has its incarnation, and its families may stand in an entry.
+    pub fn table(&self, name: &TableName) -> Option<&TableInfo>
+        ensures table { option_map (λ t. t.now) result ≡ table_of name.now self.now.schema }
+        ensures own { IfSome result (λ t. table_at t.now.incarnation self.now.schema ≡ Some t.now) }
+        ensures lawful { IfSome result (λ t. AreSpellableFamilies t.now.families) }
+    {
+        self.schema.table(name)
+    }
+
+    /// The rows of the table of that incarnation; `None` where it has none or is gone.
     pub fn rows_of(&self, incarnation: u64) -> Option<&Contents>
         ensures { unwrap_or (option_map (λ c. c.now) result) [] ≡ rows_of incarnation self.now.contents }
     {
-        self.contents.get(&incarnation)
+        self.contents.rows_of(incarnation)
     }
 
     /// The sequence of the last entry, or 0.
     pub fn last_sequence(&self) -> u64
-        ensures { result ≡ self.now.last }
+        ensures value { result ≡ self.now.last }
+        ensures small { self.now.last ≤ greatest_sequence }
     {
         self.last
     }
@@ -92,11 +107,11 @@ impl Present {
         self.floor
     }
 
-    /// Whether no further entry has a sequence, so that none can be added.
-    pub fn is_full(&self) -> bool
-        ensures { IsTrue result ↔ (greatest_sequence ≤ self.now.last) }
+    /// Whether so many further entries have sequences.
+    pub fn has_room(&self, entries: usize) -> bool
+        ensures { IsTrue result ↔ (self.now.last + entries ≤ greatest_sequence) }
     {
-        self.last >= GREATEST_SEQUENCE
+        self.last <= GREATEST_SEQUENCE && entries as u64 <= GREATEST_SEQUENCE - self.last
     }
 
     /// The moment to use for a reading of the clock, in microseconds since 1970: moments never
@@ -115,43 +130,67 @@ impl Present {
         ensures err { OnErr result (self.new ≡ self.old) }
     {
         let sequence = self.last + 1;
-        match entry {
-            Entry::Create { name, families } => {
-                self.schema.add(alloc, name, sequence, families)?;
-            }
-            Entry::Row {
-                incarnation,
-                key,
-                mutations,
-            } => change_row(alloc, &mut self.contents, incarnation, key, mutations)?,
-        }
+        let change = Numbered {
+            sequence,
+            moment,
+            entry,
+        };
+        self.schema.apply_change(alloc, &change)?;
+        change_rows(alloc, &mut self.contents, change.entry)?;
         self.last = sequence;
         self.floor = moment;
         Ok(())
     }
-}
 
-// Makes the changes of a row of the table of that incarnation, all or none.
-fn change_row(
-    alloc: Global,
-    contents: &mut BTreeMap<u64, Contents>,
-    incarnation: u64,
-    key: RowKey,
-    mutations: MutationList,
-) -> Result<(), OutOfMemory>
-    requires some { 1 ≤ length mutations }
-    requires sets { AreSets mutations }
-    requires short { HaveShort mutations }
-    ensures ok { OnOk result (contents.new.entries ≡ insert_entry nat_cmp contents.old.entries incarnation (put_row key mutations (rows_of incarnation contents.old.entries))) }
-    ensures err { OnErr result (contents.new.entries ≡ contents.old.entries) }
-{
-    match contents.get_mut(&incarnation) {
-        Some(rows) => rows.change(alloc, key, mutations),
-        None => {
-            let mut rows = Contents::new(alloc);
-            rows.change(alloc, key, mutations)?;
-            contents.insert(incarnation, rows)?;
-            Ok(())
+    /// Makes the changes of entries that may come next, in order, all or none. They take the next
+    /// sequences. It fails only where an allocation is refused.
+    pub fn apply_all(&mut self, alloc: Global, batch: Batch) -> Result<(), OutOfMemory>
+        requires numbered { AreNumbered (self.old.last + 1) batch }
+        requires room { self.old.last + length batch ≤ greatest_sequence }
+        requires lawful { AreLawful self.old (events_of batch) }
+        ensures ok { OnOk result (self.new ≡ presents_after self.old (events_of batch)) }
+        ensures err { OnErr result (self.new ≡ self.old) }
+    {
+        if batch.items().len() == 1 {
+            self.apply_only(alloc, batch)
+        } else {
+            self.apply_each(alloc, batch)
         }
+    }
+
+    // Without a copy of the tables.
+    fn apply_only(&mut self, alloc: Global, batch: Batch) -> Result<(), OutOfMemory>
+        requires only { length batch ≡ 1 }
+        requires room { self.old.last + length batch ≤ greatest_sequence }
+        requires lawful { AreLawful self.old (events_of batch) }
+        ensures ok { OnOk result (self.new ≡ presents_after self.old (events_of batch)) }
+        ensures err { OnErr result (self.new ≡ self.old) }
+    {
+        let mut entries = batch.into_vec();
+        let Some(only) = entries.pop() else {
+            unreachable!()
+        };
+        self.apply(alloc, only.entry, only.moment)
+    }
+
+    // What may fail comes before the first change, and the change of rows is all or none.
+    fn apply_each(&mut self, alloc: Global, batch: Batch) -> Result<(), OutOfMemory>
+        requires numbered { AreNumbered (self.old.last + 1) batch }
+        requires room { self.old.last + length batch ≤ greatest_sequence }
+        requires lawful { AreLawful self.old (events_of batch) }
+        ensures ok { OnOk result (self.new ≡ presents_after self.old (events_of batch)) }
+        ensures err { OnErr result (self.new ≡ self.old) }
+    {
+        let last = self.last + batch.items().len() as u64;
+        let floor = floor_after(self.floor, batch.items());
+        let schema = changed_schema(alloc, &self.schema, batch.items())?;
+        let deleted = deleted_tables(alloc, batch.items())?;
+        let changes = row_changes(alloc, batch)?;
+        self.contents.change_all(alloc, changes)?;
+        forget_all(&mut self.contents, deleted);
+        put_schema(&mut self.schema, schema);
+        self.last = last;
+        self.floor = floor;
+        Ok(())
     }
 }

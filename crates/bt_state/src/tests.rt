@@ -1,165 +1,19 @@
-ghost use Rattle.std.specs.Prelude.{◌≡◌, length, IfOk};
-ghost use Rattle.bt_state.specs.Places.{AreSets, HaveShort};
+ghost use Rattle.std.specs.Prelude.{◌≡◌, IfOk, OnOk, length};
+ghost use Rattle.std.specs.List.{AllByRecursion};
+ghost use Rattle.bt_entry.specs.Grammar.{AreNumbered, IsSpellableEntry, IsSpellableNumbered};
+ghost use Rattle.bt_state.specs.State.{AreLawful, events_of};
 
-use crate::{Contents, Present, Row, Schema, has_family};
-use bt_base::Blob;
-use bt_entry::{Families, Family};
+use crate::Present;
+use bt_base::{Blob, Plain};
+use bt_entry::{Batch, Entry, Numbered};
+use bt_rules::{Families, Family};
 use bt_types::{
-    Cell, FamilyName, Micros, Mutation, MutationList, NoReads, Qualifier, RowKey, RowRange, Rows,
-    SourceFault, TableName,
+    FamilyName, Micros, Mutation, MutationList, Qualifier, RowKey, RowRange, TableName,
 };
 use std::alloc::Global;
 use std::test::Fail;
 
 const YEAR_10000: u64 = 253402300800000000;
-
-fn family(alloc: Global, text: &str) -> Result<FamilyName, Fail> {
-    Ok(FamilyName::new(alloc, text)?.ok_or("family")?)
-}
-
-fn table_name(alloc: Global, id: &str) -> Result<TableName, Fail> {
-    Ok(TableName::in_instance(alloc, "projects/p/instances/i", id)?.ok_or("table")?)
-}
-
-// Sets a cell whose qualifier and value have one byte.
-fn one_cell(alloc: Global, column: (&str, u8), at: i64, value: u8) -> Result<MutationList, Fail>
-    ensures { IfOk result (λ list. AreSets list × HaveShort list × (length list ≡ 1)) }
-{
-    let mut mutations = MutationList::new(alloc);
-    mutations.push(Mutation::SetCell {
-        family: family(alloc, column.0)?,
-        qualifier: Qualifier::new(alloc, &[column.1])?.ok_or("qualifier")?,
-        at: Micros::new(at).ok_or("timestamp")?,
-        value: Blob::new(alloc, &[value])?,
-    })?;
-    Ok(mutations)
-}
-
-fn set(alloc: Global, row: &mut Row, column: (&str, u8), at: i64, value: u8) -> Result<(), Fail> {
-    let mutations = one_cell(alloc, column, at, value)?;
-    row.change(mutations)?;
-    Ok(())
-}
-
-fn have_values(cells: &[Cell], values: &[u8]) -> bool {
-    let bytes = cells.iter().map(|c| c.value.bytes());
-    cells.len() == values.len() && bytes.zip(values).all(|(b, v)| b == [*v].as_slice())
-}
-
-fn put(alloc: Global, contents: &mut Contents, key: &[u8], at: i64, value: u8) -> Result<(), Fail> {
-    let key = RowKey::new(alloc, key)?.ok_or("key")?;
-    let mutations = one_cell(alloc, ("f", b'q'), at, value)?;
-    contents.change(alloc, key, mutations)?;
-    Ok(())
-}
-
-// Four rows, of which the second one has two cells.
-fn four_rows(alloc: Global) -> Result<Contents, Fail> {
-    let mut contents = Contents::new(alloc);
-    put(alloc, &mut contents, b"d", 1000, b'5')?;
-    put(alloc, &mut contents, b"b", 1000, b'3')?;
-    put(alloc, &mut contents, b"b", 2000, b'2')?;
-    put(alloc, &mut contents, b"a", 1000, b'1')?;
-    put(alloc, &mut contents, b"c", 1000, b'4')?;
-    Ok(contents)
-}
-
-fn range(alloc: Global, start: &[u8], end: Option<&[u8]>) -> Result<RowRange, Fail> {
-    let end = match end {
-        Some(end) => Some(Blob::new(alloc, end)?),
-        None => None,
-    };
-    let start = Blob::new(alloc, start)?;
-    Ok(RowRange { start, end })
-}
-
-fn first_key(
-    alloc: Global,
-    contents: &Contents,
-    start: &[u8],
-    end: Option<&[u8]>,
-) -> Result<Option<RowKey>, Fail> {
-    let range = range(alloc, start, end)?;
-    let row = contents.rows_in(alloc, &range).next_row(&mut NoReads)?;
-    Ok(row)
-}
-
-// Rows of any kind, asked through their trait.
-fn next_key<R: Rows<NoReads>>(rows: &mut R) -> Result<Option<RowKey>, SourceFault> {
-    rows.next_row(&mut NoReads)
-}
-
-fn key_is(row: Option<RowKey>, bytes: &[u8]) -> bool {
-    match row {
-        Some(key) => key.bytes() == bytes,
-        None => false,
-    }
-}
-
-fn value_is(cell: Option<Cell>, value: u8) -> bool {
-    match cell {
-        Some(cell) => cell.value.bytes() == [value].as_slice(),
-        None => false,
-    }
-}
-
-#[test]
-fn a_range_has_its_rows_and_their_cells(rt: HostRuntime) -> Result<(), Fail> {
-    let alloc = rt.alloc();
-    let contents = four_rows(alloc)?;
-    let range = range(alloc, b"b", Some(b"d"))?;
-    let mut rows = contents.rows_in(alloc, &range);
-    assert!(rt; key_is(next_key(&mut rows)?, b"b"));
-    assert!(rt; value_is(rows.next_cell(&mut NoReads)?, b'2'));
-    assert!(rt; value_is(rows.next_cell(&mut NoReads)?, b'3'));
-    assert!(rt; rows.next_cell(&mut NoReads)?.is_none());
-    assert!(rt; key_is(next_key(&mut rows)?, b"c"));
-    assert!(rt; next_key(&mut rows)?.is_none());
-    Ok(())
-}
-
-#[test]
-fn a_bound_may_be_no_key(rt: HostRuntime) -> Result<(), Fail> {
-    let alloc = rt.alloc();
-    let contents = four_rows(alloc)?;
-    let long = [b'b'; 5000];
-    assert!(rt; key_is(first_key(alloc, &contents, b"", None)?, b"a"));
-    assert!(rt; key_is(first_key(alloc, &contents, &long, None)?, b"c"));
-    assert!(rt; first_key(alloc, &contents, b"bb", Some(&long))?.is_none());
-    assert!(rt; first_key(alloc, &contents, b"c", Some(b"b"))?.is_none());
-    assert!(rt; first_key(alloc, &contents, b"", Some(b""))?.is_none());
-    Ok(())
-}
-
-#[test]
-fn cells_stand_in_their_order(rt: HostRuntime) -> Result<(), Fail> {
-    let alloc = rt.alloc();
-    let mut row = Row::new(alloc);
-    set(alloc, &mut row, ("g", b'a'), 1000, b'1')?;
-    set(alloc, &mut row, ("f", b'b'), 1000, b'2')?;
-    set(alloc, &mut row, ("f", b'b'), 3000, b'3')?;
-    set(alloc, &mut row, ("f", b'a'), 1000, b'4')?;
-    set(alloc, &mut row, ("f", b'b'), 2000, b'5')?;
-    set(alloc, &mut row, ("f", b'b'), 3000, b'6')?;
-    assert!(rt; have_values(row.cells(), b"46521"));
-    Ok(())
-}
-
-#[test]
-fn a_table_has_its_families(rt: HostRuntime) -> Result<(), Fail> {
-    let alloc = rt.alloc();
-    let mut families = Families::new(alloc);
-    families.push(Family {
-        name: family(alloc, "g")?,
-    })?;
-    let mut schema = Schema::new(alloc);
-    schema.add(alloc, table_name(alloc, "t")?, 2, families)?;
-    assert!(rt; schema.table_at(1).is_none());
-    let table = schema.table_at(2).ok_or("table")?;
-    assert!(rt; has_family(table, &family(alloc, "g")?));
-    assert!(rt; !has_family(table, &family(alloc, "f")?));
-    Ok(())
-}
 
 #[test]
 fn moments_never_fall(rt: HostRuntime) -> Result<(), Fail> {
@@ -169,5 +23,144 @@ fn moments_never_fall(rt: HostRuntime) -> Result<(), Fail> {
     assert_eq!(rt; present.moment_used(6), 7);
     assert_eq!(rt; present.moment_used(8), 8);
     assert_eq!(rt; present.moment_used(YEAR_10000), YEAR_10000 - 1);
+    Ok(())
+}
+
+fn create(alloc: Global, id: &str) -> Result<Entry, Fail>
+    ensures { IfOk result IsSpellableEntry }
+{
+    let name = TableName::in_instance(alloc, "projects/p/instances/i", id)?.ok_or("table")?;
+    let family = FamilyName::new(alloc, "f")?.ok_or("family")?;
+    let mut families = Families::new(alloc);
+    families.push(Family {
+        name: family,
+        rule: None,
+    })?;
+    Ok(Entry::Create {
+        name,
+        families,
+        retention: 0,
+    })
+}
+
+fn set_cell(alloc: Global, incarnation: u64, key: &[u8]) -> Result<Entry, Fail>
+    ensures { IfOk result IsSpellableEntry }
+{
+    let key = RowKey::new(alloc, key)?.ok_or("key")?;
+    let family = FamilyName::new(alloc, "f")?.ok_or("family")?;
+    let qualifier = Qualifier::new(alloc, b"q")?.ok_or("qualifier")?;
+    let at = Micros::new(1000).ok_or("timestamp")?;
+    let value = Blob::new(alloc, b"v")?;
+    let mut mutations = MutationList::new(alloc);
+    mutations.push(Mutation::SetCell {
+        family,
+        qualifier,
+        at,
+        value,
+    })?;
+    Ok(Entry::Row {
+        incarnation,
+        key,
+        by_rule: false,
+        mutations,
+    })
+}
+
+// At the next moment.
+fn apply(alloc: Global, present: &mut Present, entry: Entry) -> Result<(), Fail>
+    requires { IsSpellableEntry entry }
+{
+    if !present.has_room(1) || present.floor() > 1000 || !present.allows(&entry) {
+        return Err(Fail::from("entry"));
+    }
+    let moment = present.floor() + 1;
+    present.apply(alloc, entry, moment)?;
+    Ok(())
+}
+
+#[test]
+fn a_family_with_cells_stays(rt: HostRuntime) -> Result<(), Fail> {
+    let alloc = rt.alloc();
+    let mut present = Present::new(alloc);
+    apply(alloc, &mut present, create(alloc, "t")?)?;
+    let without_families = Entry::Alter {
+        incarnation: 1,
+        families: Families::new(alloc),
+    };
+    assert!(rt; present.allows(&without_families));
+    apply(alloc, &mut present, set_cell(alloc, 1, b"r")?)?;
+    assert!(rt; !present.allows(&without_families));
+    assert_eq!(rt; present.last_sequence(), 2);
+    assert_eq!(rt; present.floor(), 2);
+    apply(alloc, &mut present, Entry::Delete { incarnation: 1 })?;
+    assert!(rt; present.rows_of(1).is_none());
+    assert!(rt; present.schema().table_at(1).is_none());
+    Ok(())
+}
+
+// Two tables with rows, and one of them deleted, at moments from 10 on.
+fn batch(alloc: Global) -> Result<Batch, Fail>
+    ensures length { IfOk result (λ batch. length batch ≡ 6) }
+    ensures numbered { IfOk result (AreNumbered 1) }
+    ensures spellable { IfOk result (AllByRecursion IsSpellableNumbered) }
+{
+    let batch = vec![in alloc;
+        at(10, 1, create(alloc, "t")?),
+        at(10, 2, create(alloc, "u")?),
+        at(11, 3, set_cell(alloc, 1, b"r")?),
+        at(12, 4, set_cell(alloc, 2, b"r")?),
+        at(12, 5, set_cell(alloc, 1, b"s")?),
+        at(13, 6, Entry::Delete { incarnation: 2 }),
+    ]?;
+    Ok(Batch::from_vec(batch))
+}
+
+fn at(moment: u64, sequence: u64, entry: Entry) -> Numbered
+    ensures { result ≡ (record { sequence = sequence; moment = moment; entry = entry }) }
+{
+    Numbered {
+        sequence,
+        moment,
+        entry,
+    }
+}
+
+// Applies copies of the entries in turn.
+fn apply_copies(alloc: Global, present: &mut Present, batch: &[Numbered]) -> Result<(), Fail>
+    requires { AllByRecursion IsSpellableNumbered batch.now }
+    ensures { OnOk result (AreLawful present.old (events_of batch.now)) }
+{
+    let [first, rest @ ..] = batch else {
+        return Ok(());
+    };
+    if !present.has_room(1) || first.moment < present.floor() || !present.allows(&first.entry) {
+        return Err(Fail::from("entry"));
+    }
+    present.apply(alloc, first.entry.copy(alloc)?, first.moment)?;
+    apply_copies(alloc, present, rest)
+}
+
+fn all_keys(alloc: Global) -> RowRange {
+    RowRange {
+        start: Blob::from_vec(Vec::new(alloc)),
+        end: None,
+    }
+}
+
+#[test]
+fn a_batch_is_applied_in_order(rt: HostRuntime) -> Result<(), Fail> {
+    let alloc = rt.alloc();
+    let batch = batch(alloc)?;
+    let mut in_turn = Present::new(alloc);
+    apply_copies(alloc, &mut in_turn, batch.items())?;
+    let mut present = Present::new(alloc);
+    present.apply_all(alloc, batch)?;
+    assert_eq!(rt; present.last_sequence(), 6);
+    assert_eq!(rt; present.floor(), 13);
+    assert!(rt; present.schema().table_at(1).is_some());
+    assert!(rt; present.schema().table_at(2).is_none());
+    let rows = present.rows_of(1).ok_or("rows")?;
+    assert_eq!(rt; rows.keys_in(alloc, &all_keys(alloc))?.items().len(), 2);
+    assert!(rt; present.rows_of(2).is_none());
     Ok(())
 }

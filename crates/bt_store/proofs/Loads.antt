@@ -10,8 +10,8 @@ use Rattle.bt_log.specs.Segment.{segment}
 use Rattle.bt_log.specs.Log.{IsOpen}
 use Rattle.bt_manifest.specs.declared.snapshot.Snapshot.{Snapshot}
 use Rattle.bt_manifest.specs.Slots.{counting, SlotsSettle}
-use Rattle.bt_state.specs.State.{State, Present, after, present_after, nothing, greatest_sequence}
-use Rattle.bt_store.specs.Held.{segment_of, base_state, event_of, may_come, follow, or_place, after_segment, after_snapshot, state_of, disk_state}
+use Rattle.bt_state.specs.State.{State, Present, after, event_of, present_after, nothing, greatest_sequence}
+use Rattle.bt_store.specs.Held.{segment_of, base_state, may_come, follow, or_place, after_segment, after_snapshot, state_of, disk_state}
 use Rattle.bt_store.specs.Faults.{IsReplayFault}
 use Rattle.bt_store.specs.Stands.{Seen, Stands}
 use Rattle.bt_store.proofs.Holds.{slots_same, holds}

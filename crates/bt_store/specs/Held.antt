@@ -7,7 +7,7 @@ use Rattle.bt_manifest.specs.declared.snapshot.Segment.{Segment}
 use Rattle.bt_manifest.specs.declared.snapshot.TableFiles.{TableFiles}
 use Rattle.bt_manifest.specs.declared.snapshot.Snapshot.{Snapshot}
 use Rattle.bt_manifest.specs.Slots.{Slot, counting}
-use Rattle.bt_state.specs.State.{State, Present, Event, empty_state, after, is_allowed}
+use Rattle.bt_state.specs.State.{State, Present, Event, empty_state, after, event_of, is_allowed}
 
 -- a file, and a place in it
 abbrev pub Place : Type 0
@@ -39,12 +39,9 @@ first_snapshot = record { next_file = 3; floor = 0; base = 0; segments = record 
 abbrev pub base_state : Snapshot → State
 base_state s = record { present = record { schema = []; contents = []; last = s.base; floor = s.floor }; history = []; lost = [] }
 
-abbrev pub event_of : Numbered → Event
-event_of n = record { moment = n.moment; entry = n.entry }
-
 -- an entry of the grammar may come next
 abbrev pub may_come : Present → Event → Bool
-may_come p e = nat_le p.floor e.moment && is_allowed e.entry p.schema
+may_come p e = nat_le p.floor e.moment && is_allowed e.entry p
 
 -- the state after these entries, or none where one of them may not come
 abbrev pub follow : State → List Numbered → Option State

@@ -4,7 +4,6 @@
 mod begun;
 mod limits;
 mod loaded;
-mod staging;
 mod store;
 mod table_cursor;
 #[cfg(test)]

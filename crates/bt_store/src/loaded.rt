@@ -6,8 +6,8 @@ ghost use Rattle.bt_entry.specs.Grammar.{IsSpellableNumbered, last_moment};
 ghost use Rattle.bt_crash.specs.Moments.{Keeps};
 ghost use Rattle.bt_gate.specs.Faults.{Failed};
 ghost use Rattle.bt_manifest.specs.Slots.{SlotsSettle, counting};
-ghost use Rattle.bt_state.specs.State.{State, greatest_sequence, present_after};
-ghost use Rattle.bt_store.specs.Held.{IsBroken, disk_state, segment_of, only_segment, has_no_files, base_state, follow, event_of, may_come};
+ghost use Rattle.bt_state.specs.State.{State, event_of, greatest_sequence, present_after};
+ghost use Rattle.bt_store.specs.Held.{IsBroken, disk_state, segment_of, only_segment, has_no_files, base_state, follow, may_come};
 ghost use Rattle.bt_store.specs.Stands.{Stands};
 ghost use Rattle.bt_store.specs.Faults.{IsLoadFault, IsReplayFault};
 
@@ -119,7 +119,7 @@ fn apply_next(
     ensures some { OnOk result ((may_come present.old (event_of numbered) ≡ true) × (present.new ≡ present_after present.old (event_of numbered))) }
     ensures fault { IfErr result (IsReplayFault file (may_come present.old (event_of numbered) ≡ false)) }
 {
-    if numbered.moment < present.floor() || !present.schema().allows(&numbered.entry) {
+    if numbered.moment < present.floor() || !present.allows(&numbered.entry) {
         return Err(LogFault::Damaged { file, at: 0 });
     }
     present.apply(alloc, numbered.entry, numbered.moment)?;

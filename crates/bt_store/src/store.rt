@@ -1,27 +1,29 @@
 //! The tables in memory, and the log that holds them.
-ghost use Rattle.std.specs.Prelude.{◌≡◌, ◌<◌, ◌≤◌, [], ◌∷◌, List, length, Ok, Err, OnOk, IfOk, IfErr};
+ghost use Rattle.std.specs.Prelude.{◌≡◌, ◌↔◌, ◌<◌, ◌≤◌, ◌+◌, ◌^◌, [], ◌∷◌, List, length, Ok, Err, OnOk, IfOk, IfErr, IsTrue, IsFalse};
 ghost use Rattle.bt_base.specs.Counts.{counted};
-ghost use Rattle.bt_entry.specs.Grammar.{last_moment};
+ghost use Rattle.bt_entry.specs.Grammar.{AreNumbered, last_moment};
+ghost use Rattle.bt_entry.specs.Spelling.{spelling};
 ghost use Rattle.bt_crash.specs.Moments.{Keeps};
 ghost use Rattle.bt_crash.specs.Changes.{StepsThrough};
 ghost use Rattle.bt_gate.specs.Faults.{Failed, WriteFailed};
-ghost use Rattle.bt_state.specs.State.{State, IsLawful, after, after_record, greatest_sequence, moment_used, present_after, rows_of};
-ghost use Rattle.bt_state.specs.Ranges.{rows_within, unread};
+ghost use Rattle.bt_state.specs.State.{State, AreLawful, after_record, events_of, greatest_sequence, moment_used, presents_after, rows_of};
+ghost use Rattle.bt_contents.specs.Ranges.{rows_within, unread};
 ghost use Rattle.bt_store.specs.Held.{HoldsState, IsBroken, LikeSome, disk_state};
 ghost use Rattle.bt_store.specs.Stands.{Stands};
-ghost use Rattle.bt_store.specs.Faults.{event, body_of, IsTooLarge, IsRefused, IsCommitFault, IsLoadFault, IsStageFault};
+ghost use Rattle.bt_store.specs.Faults.{IsTooLarge, IsRefused, IsCommitFault, IsLoadFault, IsStageFault};
 
 use crate::begun::begin;
 use crate::limits::Limits;
 use crate::loaded::load_from;
-use crate::staging::spell;
 use crate::table_cursor::TableCursor;
-use bt_entry::Entry;
+use bt_contents::ContentsRows;
+use bt_entry::{Batch, fits, write_batch};
 use bt_gate::LogFault;
 use bt_log::{Log, Record};
 use bt_manifest::load_manifest;
 use bt_outside::Disk;
-use bt_state::{ContentsRows, Present, Schema};
+use bt_schema::Schema;
+use bt_state::Present;
 use bt_types::{NoReads, RowRange};
 use std::alloc::Global;
 use std::marker::Model;
@@ -37,10 +39,14 @@ pub struct Store {
 
 impl Model for Store {
     ghost use Rattle.std.specs.Prelude.{◌≤◌};
+    ghost use Rattle.std.specs.Coded.{codes};
     ghost use Rattle.bt_entry.specs.Grammar.{last_moment};
+    ghost use Rattle.bt_rules.specs.contracts.rule.Rule as rule;
     ghost use Rattle.bt_store.specs.Stands.{Seen};
 
     ghost Value = { Seen };
+
+    ghost coded = { Prim.hlevel (codes, rule.the_row.coded) };
 
     ghost view = { λ s. record { present = s.present; log = s.log; limits = s.limits } };
 
@@ -82,51 +88,61 @@ impl Store {
         load_from(alloc, disk, limits, &snapshot, generation)
     }
 
-    /// Commits an entry that may come next, at its moment in microseconds since 1970: adds it to the
-    /// log, in four calls of the disk, and makes its change. A crash at each moment leaves the state
-    /// before the entry or the one behind it, and after `Ok` the one behind it.
+    /// Commits entries that may come next, all or none: adds them to the log as one record, in four
+    /// calls of the disk, and makes their changes. A crash at each moment leaves the state before
+    /// the first entry or the one behind the last, and after `Ok` the one behind the last.
     ///
-    /// It answers `TooLarge` where the body of the entry's record, which has `length` bytes, is
-    /// longer than the limit, or where no sequence is left; and `OutOfMemory`. Both come before the
-    /// first call of the disk, and nothing has changed. It answers `DiskFailed` where a call of the
-    /// disk failed: the disk has then the state with the entry or without, and the store is only
-    /// dropped.
+    /// It answers `TooLarge` where the record's body, which has `length` bytes, is longer than the
+    /// limit, or where sequences are not left for all entries; and `OutOfMemory`. Both come before
+    /// the first call of the disk, and nothing has changed. It answers `DiskFailed` where a call of
+    /// the disk failed: the disk has then the state with the entries or without, and the store is
+    /// only dropped.
     pub fn commit<D: Disk>(
         &mut self,
         alloc: Global,
         disk: &mut D,
-        entry: Entry,
-        moment: u64,
+        batch: Batch,
     ) -> Result<(), LogFault>
         requires stands { D.tells → (s : State) × Stands self.old s (D.held disk.old) (D.may_leave disk.old) }
-        requires lawful { IsLawful self.old.present (event moment entry) }
-        ensures stands { (s : State) → D.tells → Stands self.old s (D.held disk.old) (D.may_leave disk.old) → OnOk result (Stands self.new (after s (event moment entry)) (D.held disk.new) (D.may_leave disk.new)) }
-        ensures any_moment { (s : State) → (D.tells → Stands self.old s (D.held disk.old) (D.may_leave disk.old)) → StepsThrough D.Disk HoldsState after_record s ((event moment entry ∷ []) ∷ []) disk.old disk.new }
-        ensures present { OnOk result (self.new.present ≡ present_after self.old.present (event moment entry)) }
+        requires some { (1 ≤ length batch) × (length batch < 2 ^ 32) }
+        requires numbered { AreNumbered (self.old.present.last + 1) batch }
+        requires lawful { AreLawful self.old.present (events_of batch) }
+        ensures stands { (s : State) → D.tells → Stands self.old s (D.held disk.old) (D.may_leave disk.old) → OnOk result (Stands self.new (after_record s (events_of batch)) (D.held disk.new) (D.may_leave disk.new)) }
+        ensures any_moment { (s : State) → (D.tells → Stands self.old s (D.held disk.old) (D.may_leave disk.old)) → StepsThrough D.Disk HoldsState after_record s (events_of batch ∷ []) disk.old disk.new }
+        ensures present { OnOk result (self.new.present ≡ presents_after self.old.present (events_of batch)) }
         ensures limits { self.new.limits ≡ self.old.limits }
-        ensures large { IsTooLarge self.old (event moment entry) → IsRefused (length (body_of (event moment entry))) result }
-        ensures fault { IfErr result (IsCommitFault self.old (event moment entry) (WriteFailed D.Disk disk.old disk.new) ((disk.new ≡ disk.old) × (self.new ≡ self.old))) }
+        ensures large { IsTooLarge self.old batch → IsRefused (length (spelling batch)) result }
+        ensures fault { IfErr result (IsCommitFault self.old batch (WriteFailed D.Disk disk.old disk.new) ((disk.new ≡ disk.old) × (self.new ≡ self.old))) }
         ensures fine { OnOk result ((D.faults disk.new ≡ D.faults disk.old) × (D.write_faults disk.new ≡ D.write_faults disk.old)) }
         ensures four { OnOk result (D.moment disk.new ≡ counted (counted (counted (counted (D.moment disk.old))))) }
     {
-        let (entry, body) = spell(alloc, entry, moment)?;
-        let staged = self.stage(alloc, body.bytes())?;
+        let body = write_batch(alloc, &batch)?;
+        let record = self.record(alloc, body.bytes(), batch.items().len())?;
         // All memory is taken before the first call of the disk.
-        self.present.apply(alloc, entry, moment)?;
-        self.log.add(disk, &staged)?;
+        self.present.apply_all(alloc, batch)?;
+        self.log.add(disk, &record)?;
         Ok(())
     }
 
-    // The record of the next entry, whose body has these bytes.
-    fn stage(&self, alloc: Global, body: &[u8]) -> Result<Record, LogFault>
-        ensures some { IfOk result (λ r. (r ≡ body.now) × (length body.now ≤ self.now.limits.body) × (self.now.present.last < greatest_sequence)) }
-        ensures fault { IfErr result (IsStageFault self.now (length body.now)) }
+    // The record of so many entries, whose body has these bytes.
+    fn record(&self, alloc: Global, body: &[u8], entries: usize) -> Result<Record, LogFault>
+        ensures some { IfOk result (λ r. (r ≡ body.now) × (length body.now ≤ self.now.limits.body) × (self.now.present.last + entries ≤ greatest_sequence)) }
+        ensures fault { IfErr result (IsStageFault self.now (length body.now) entries) }
     {
-        if self.present.is_full() {
+        if !self.present.has_room(entries) {
             let length = body.len() as u64;
             return Err(LogFault::TooLarge { length });
         }
         Record::new(alloc, body, self.limits.body)
+    }
+
+    /// Whether the record of these entries is too large: longer than the limit, or without sequences
+    /// for all of them. It takes no memory.
+    pub fn is_too_large(&self, batch: &Batch) -> bool
+        ensures large { IsTrue result ↔ IsTooLarge self.now batch.now }
+        ensures few { IsFalse result → length batch.now < 2 ^ 32 }
+    {
+        !self.present.has_room(batch.items().len()) || !fits(batch, self.limits.body)
     }
 
     /// The tables as they are.

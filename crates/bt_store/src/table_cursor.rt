@@ -1,5 +1,5 @@
 //! The rows of a table of a store.
-use bt_state::ContentsRows;
+use bt_contents::ContentsRows;
 use bt_types::NoReads;
 
 /// The rows of a table in a range of keys (`bt_types::Rows`), with the reading that they are read

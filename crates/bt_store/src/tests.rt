@@ -1,8 +1,12 @@
 //! A store over a disk in memory, and what a crash leaves of it.
+ghost use Rattle.std.specs.Prelude.{◌≡◌, ◌<◌, ◌+◌, ◌^◌, [], ◌∷◌, IfOk};
+ghost use Rattle.bt_entry.specs.declared.entry.Entry.TheVariants as entries;
+
 use crate::{Limits, Store, StoreFault, TableCursor};
-use bt_base::Blob;
-use bt_entry::{Entry, Families};
+use bt_base::{Blob, OutOfMemory};
+use bt_entry::{Batch, Entry, Numbered};
 use bt_outside::{Disk, MemoryDisk};
+use bt_rules::Families;
 use bt_types::{RowRange, Rows, TableName};
 use std::alloc::Global;
 use std::test::Fail;
@@ -20,19 +24,42 @@ fn has_table(alloc: Global, disk: &mut MemoryDisk) -> Result<bool, Fail> {
     Ok(store.schema().table(&table_name(alloc)?).is_some())
 }
 
-// Loads the store, commits a table without families, and gives the sequence of its entry.
+// Loads the store, commits a table without families and the moment behind it in one record, and
+// gives the sequence of the table's entry.
 fn create_table(alloc: Global, disk: &mut MemoryDisk, name: TableName) -> Result<u64, StoreFault> {
     let mut store = Store::load(alloc, disk, &Limits::standard())?;
     let _lawful = name.bytes();
     let entry = Entry::Create {
         name,
         families: Families::new(alloc),
+        retention: 0,
     };
-    if store.present().floor() > 5 || !store.schema().allows(&entry) {
+    let present = store.present();
+    if present.floor() > 5 || !present.has_room(2) || !present.allows(&entry) {
         return Ok(0);
     }
-    store.commit(alloc, disk, entry, 5)?;
-    Ok(store.last_sequence())
+    let sequence = present.last_sequence() + 1;
+    let batch = table_and_moment(alloc, sequence, entry)?;
+    store.commit(alloc, disk, batch)?;
+    Ok(sequence)
+}
+
+fn table_and_moment(alloc: Global, sequence: u64, entry: Entry) -> Result<Batch, OutOfMemory>
+    requires { sequence < 2 ^ 63 }
+    ensures { IfOk result (λ batch. batch ≡ record { sequence = sequence; moment = 5; entry = entry } ∷ record { sequence = sequence + 1; moment = 6; entry = entries.Floor } ∷ []) }
+{
+    let mut batch = Batch::new(alloc);
+    batch.push(Numbered {
+        sequence,
+        moment: 5,
+        entry,
+    })?;
+    batch.push(Numbered {
+        sequence: sequence + 1,
+        moment: 6,
+        entry: Entry::Floor,
+    })?;
+    Ok(batch)
 }
 
 #[test]
@@ -44,6 +71,9 @@ fn a_table_is_there_again(rt: HostRuntime) -> Result<(), Fail> {
         1
     );
     assert!(rt; has_table(rt.alloc(), &mut disk)?);
+    let store = load(rt.alloc(), &mut disk)?;
+    assert_eq!(rt; store.last_sequence(), 2);
+    assert_eq!(rt; store.present().floor(), 6);
     Ok(())
 }
 

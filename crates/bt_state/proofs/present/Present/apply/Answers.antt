@@ -1,20 +1,18 @@
-use Rattle.bt_state.proofs.Made.{none_next, made_later, made_next, row_sets, row_short}
+use Rattle.std.proofs.Common.{◌+◌, ◌<◌, arith, rules, subst, sym}
+use Rattle.bt_state.specs.State.{Event, IsLawful, Present, greatest_sequence}
+use Rattle.bt_state.proofs.Entries.{is_new}
+use Rattle.bt_state.proofs.Made.{none_past}
+use Rattle.bt_state.proofs.Reached.{reached_after}
 use Rattle.bt_state.proofs.present.Present.apply.Goals as goal
-use Rattle.bt_state.proofs.present.Present.apply.Goals.{in-Create+in_ok-add-in-Create, in-Row+in_ok-change_row-in-Row}
 
 -- no table has the next sequence
-pub add-requires-clause-new : goal.add-requires-clause-new
-add-requires-clause-new c = none_next c.self.inside.last c.self.inside.schema c.self.invariant
+pub apply_change-requires-clause-new : goal.apply_change-requires-clause-new
+apply_change-requires-clause-new c = is_new (c.self.inside.last + 1) c.args.entry c.self.inside.schema (none_past c.self.inside.last (c.self.inside.last + 1) (omega arith) c.self.inside.schema c.self.invariant.made)
 
-pub change_row-requires-clause-sets : goal.change_row-requires-clause-sets
-change_row-requires-clause-sets c = row_sets _ c.in-Row.incarnation c.in-Row.key c.in-Row.mutations c.requires.lawful.spellable c.in-Row.is
-
-pub change_row-requires-clause-short : goal.change_row-requires-clause-short
-change_row-requires-clause-short c = row_short _ c.in-Row.incarnation c.in-Row.key c.in-Row.mutations c.requires.lawful.spellable c.in-Row.is
-
--- the tables are made before the next sequence, or by it
 pub invariant_of-self-2 : goal.invariant_of-self-2
-invariant_of-self-2 c = elim c.match-entry.branch [
-  | in-Create+in_ok-add-in-Create w ↦ rw (w.self-inside-is, w.in_ok-add-in-Create.ensures.ok) (made_next c.self.inside.last w.in-Create.name w.in-Create.families c.self.inside.schema c.self.invariant)
-  | in-Row+in_ok-change_row-in-Row w ↦ rw w.self-inside-is (made_later c.self.inside.last c.self.inside.schema c.self.invariant)
-]
+invariant_of-self-2 c =
+    let p : Present = record { schema = c.self.inside.schema; contents = c.self.inside.contents; last = c.self.inside.last; floor = c.self.inside.floor } in
+    let e : Event = record { moment = c.args.moment; entry = c.args.entry } in
+    let room : c.self.inside.last < greatest_sequence = search rules in
+    rw (c.in_ok-apply_change.ensures.ok, c.in_ok-change_rows.ensures.ok)
+    (reached_after p e c.self.invariant (subst (λ q. IsLawful q e) (sym c.self.view_is) c.requires.lawful) room)

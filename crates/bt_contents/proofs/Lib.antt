@@ -1,0 +1,11 @@
+pub mod AllChanged
+pub mod AllRows
+pub mod Cells
+pub mod Covering
+pub mod Entries
+pub mod Laws
+pub mod Plans
+pub mod Rows
+pub mod Sound
+pub mod Steps
+pub mod Within

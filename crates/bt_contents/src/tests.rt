@@ -1,0 +1,308 @@
+ghost use Rattle.std.specs.Prelude.{IfOk};
+ghost use Rattle.bt_contents.specs.AllContents.{AreShortChanges};
+ghost use Rattle.bt_contents.specs.Contents.{HaveShort};
+
+use crate::{AllContents, Contents, RowChange, RowChangeList};
+use bt_base::Blob;
+use bt_types::{
+    Cell, FamilyName, KeyList, Micros, Mutation, MutationList, NoReads, Qualifier, RowKey,
+    RowRange, Rows, SourceFault,
+};
+use std::alloc::Global;
+use std::test::Fail;
+
+fn family(alloc: Global, text: &str) -> Result<FamilyName, Fail> {
+    Ok(FamilyName::new(alloc, text)?.ok_or("family")?)
+}
+
+fn qualifier(alloc: Global, byte: u8) -> Result<Qualifier, Fail> {
+    Ok(Qualifier::new(alloc, &[byte])?.ok_or("qualifier")?)
+}
+
+// Sets a cell whose qualifier and value have one byte.
+fn set(alloc: Global, column: (&str, u8), at: i64, value: u8) -> Result<MutationList, Fail>
+    ensures { IfOk result (λ list. HaveShort list) }
+{
+    let mut mutations = MutationList::new(alloc);
+    mutations.push(Mutation::SetCell {
+        family: family(alloc, column.0)?,
+        qualifier: qualifier(alloc, column.1)?,
+        at: Micros::new(at).ok_or("timestamp")?,
+        value: Blob::new(alloc, &[value])?,
+    })?;
+    Ok(mutations)
+}
+
+fn delete_column(
+    alloc: Global,
+    column: (&str, u8),
+    start: u64,
+    end: u64,
+) -> Result<MutationList, Fail>
+    ensures { IfOk result (λ list. HaveShort list) }
+{
+    let mut mutations = MutationList::new(alloc);
+    mutations.push(Mutation::DeleteColumn {
+        family: family(alloc, column.0)?,
+        qualifier: qualifier(alloc, column.1)?,
+        start,
+        end,
+    })?;
+    Ok(mutations)
+}
+
+// Deletes a family, and then sets a cell of it.
+fn family_anew(alloc: Global, column: (&str, u8), value: u8) -> Result<MutationList, Fail>
+    ensures { IfOk result (λ list. HaveShort list) }
+{
+    let mut mutations = MutationList::new(alloc);
+    mutations.push(Mutation::DeleteFamily {
+        family: family(alloc, column.0)?,
+    })?;
+    mutations.append(set(alloc, column, 1000, value)?)?;
+    Ok(mutations)
+}
+
+fn delete_row(alloc: Global) -> Result<MutationList, Fail>
+    ensures { IfOk result (λ list. HaveShort list) }
+{
+    let mut mutations = MutationList::new(alloc);
+    mutations.push(Mutation::DeleteRow)?;
+    Ok(mutations)
+}
+
+fn change(
+    alloc: Global,
+    contents: &mut Contents,
+    key: &[u8],
+    mutations: MutationList,
+) -> Result<(), Fail>
+    requires { HaveShort mutations }
+{
+    let key = RowKey::new(alloc, key)?.ok_or("key")?;
+    contents.change(alloc, key, mutations)?;
+    Ok(())
+}
+
+fn put(
+    alloc: Global,
+    contents: &mut Contents,
+    key: &[u8],
+    column: (&str, u8),
+    at: i64,
+    value: u8,
+) -> Result<(), Fail> {
+    let mutations = set(alloc, column, at, value)?;
+    change(alloc, contents, key, mutations)
+}
+
+// Four rows, of which the second one has two cells.
+fn four_rows(alloc: Global) -> Result<Contents, Fail> {
+    let mut contents = Contents::new(alloc);
+    put(alloc, &mut contents, b"d", ("f", b'q'), 1000, b'5')?;
+    put(alloc, &mut contents, b"b", ("f", b'q'), 1000, b'3')?;
+    put(alloc, &mut contents, b"b", ("f", b'q'), 2000, b'2')?;
+    put(alloc, &mut contents, b"a", ("f", b'q'), 1000, b'1')?;
+    put(alloc, &mut contents, b"c", ("f", b'q'), 1000, b'4')?;
+    Ok(contents)
+}
+
+fn range(alloc: Global, start: &[u8], end: Option<&[u8]>) -> Result<RowRange, Fail> {
+    let end = match end {
+        Some(end) => Some(Blob::new(alloc, end)?),
+        None => None,
+    };
+    let start = Blob::new(alloc, start)?;
+    Ok(RowRange { start, end })
+}
+
+fn first_key(
+    alloc: Global,
+    contents: &Contents,
+    start: &[u8],
+    end: Option<&[u8]>,
+) -> Result<Option<RowKey>, Fail> {
+    let range = range(alloc, start, end)?;
+    let row = contents.rows_in(alloc, &range).next_row(&mut NoReads)?;
+    Ok(row)
+}
+
+// Rows of any kind, asked through their trait.
+fn next_key<R: Rows<NoReads>>(rows: &mut R) -> Result<Option<RowKey>, SourceFault> {
+    rows.next_row(&mut NoReads)
+}
+
+fn key_is(row: Option<RowKey>, bytes: &[u8]) -> bool {
+    match row {
+        Some(key) => key.bytes() == bytes,
+        None => false,
+    }
+}
+
+fn value_is(cell: Option<Cell>, value: u8) -> bool {
+    match cell {
+        Some(cell) => cell.value.bytes() == [value].as_slice(),
+        None => false,
+    }
+}
+
+// The values of the first row, a byte each.
+fn first_row_is(alloc: Global, contents: &Contents, values: &[u8]) -> Result<bool, Fail> {
+    let range = range(alloc, b"", None)?;
+    let mut rows = contents.rows_in(alloc, &range);
+    if rows.next_row(&mut NoReads)?.is_none() {
+        return Ok(values.is_empty());
+    }
+    for value in values {
+        if !value_is(rows.next_cell(&mut NoReads)?, *value) {
+            return Ok(false);
+        }
+    }
+    Ok(rows.next_cell(&mut NoReads)?.is_none())
+}
+
+#[test]
+fn a_range_has_its_rows_and_their_cells(rt: HostRuntime) -> Result<(), Fail> {
+    let alloc = rt.alloc();
+    let contents = four_rows(alloc)?;
+    let range = range(alloc, b"b", Some(b"d"))?;
+    let mut rows = contents.rows_in(alloc, &range);
+    assert!(rt; key_is(next_key(&mut rows)?, b"b"));
+    assert!(rt; value_is(rows.next_cell(&mut NoReads)?, b'2'));
+    assert!(rt; value_is(rows.next_cell(&mut NoReads)?, b'3'));
+    assert!(rt; rows.next_cell(&mut NoReads)?.is_none());
+    assert!(rt; key_is(next_key(&mut rows)?, b"c"));
+    assert!(rt; next_key(&mut rows)?.is_none());
+    Ok(())
+}
+
+// The keys, a byte each.
+fn keys_are(keys: &KeyList, bytes: &[u8]) -> bool {
+    let firsts = keys.items().iter().map(|key| key.bytes());
+    keys.items().len() == bytes.len() && firsts.zip(bytes).all(|(k, b)| k == [*b].as_slice())
+}
+
+#[test]
+fn keys_are_found_by_range_and_family(rt: HostRuntime) -> Result<(), Fail> {
+    let alloc = rt.alloc();
+    let mut contents = four_rows(alloc)?;
+    put(alloc, &mut contents, b"c", ("g", b'q'), 1000, b'6')?;
+    put(alloc, &mut contents, b"a", ("g", b'q'), 1000, b'7')?;
+    let range = range(alloc, b"b", Some(b"d"))?;
+    assert!(rt; keys_are(&contents.keys_in(alloc, &range)?, b"bc"));
+    let family = family(alloc, "g")?;
+    assert!(rt; keys_are(&contents.keys_with(alloc, &family)?, b"ac"));
+    Ok(())
+}
+
+#[test]
+fn a_bound_may_be_no_key(rt: HostRuntime) -> Result<(), Fail> {
+    let alloc = rt.alloc();
+    let contents = four_rows(alloc)?;
+    let long = [b'b'; 5000];
+    assert!(rt; key_is(first_key(alloc, &contents, b"", None)?, b"a"));
+    assert!(rt; key_is(first_key(alloc, &contents, &long, None)?, b"c"));
+    assert!(rt; first_key(alloc, &contents, b"bb", Some(&long))?.is_none());
+    assert!(rt; first_key(alloc, &contents, b"c", Some(b"b"))?.is_none());
+    assert!(rt; first_key(alloc, &contents, b"", Some(b""))?.is_none());
+    Ok(())
+}
+
+#[test]
+fn deletions_take_what_they_name(rt: HostRuntime) -> Result<(), Fail> {
+    let alloc = rt.alloc();
+    let mut contents = Contents::new(alloc);
+    put(alloc, &mut contents, b"r", ("f0", b'q'), 1000, b'6')?;
+    put(alloc, &mut contents, b"r", ("f", b'b'), 2000, b'5')?;
+    put(alloc, &mut contents, b"r", ("f", b'a'), 1000, b'4')?;
+    put(alloc, &mut contents, b"r", ("f", b'a'), 3000, b'2')?;
+    put(alloc, &mut contents, b"r", ("f", b'a'), 2000, b'9')?;
+    put(alloc, &mut contents, b"r", ("f", b'a'), 2000, b'3')?;
+    put(alloc, &mut contents, b"r", ("e", b'q'), 1000, b'1')?;
+    assert!(rt; first_row_is(alloc, &contents, b"123456")?);
+    let mutations = delete_column(alloc, ("f", b'a'), 1000, 3000)?;
+    change(alloc, &mut contents, b"r", mutations)?;
+    assert!(rt; first_row_is(alloc, &contents, b"1256")?);
+    let mutations = delete_column(alloc, ("f", b'b'), 2000, 0)?;
+    change(alloc, &mut contents, b"r", mutations)?;
+    assert!(rt; first_row_is(alloc, &contents, b"126")?);
+    let mutations = family_anew(alloc, ("f", b'c'), b'7')?;
+    change(alloc, &mut contents, b"r", mutations)?;
+    assert!(rt; first_row_is(alloc, &contents, b"176")?);
+    Ok(())
+}
+
+#[test]
+fn a_row_goes_with_its_last_cell(rt: HostRuntime) -> Result<(), Fail> {
+    let alloc = rt.alloc();
+    let mut contents = Contents::new(alloc);
+    put(alloc, &mut contents, b"r", ("f", b'q'), 1000, b'1')?;
+    assert!(rt; contents.has_family(&family(alloc, "f")?));
+    assert!(rt; !contents.has_family(&family(alloc, "e")?));
+    change(alloc, &mut contents, b"r", delete_row(alloc)?)?;
+    assert!(rt; contents.is_empty());
+    put(alloc, &mut contents, b"r", ("f", b'q'), 1000, b'1')?;
+    let mutations = delete_column(alloc, ("f", b'q'), 0, 0)?;
+    change(alloc, &mut contents, b"r", mutations)?;
+    assert!(rt; contents.is_empty());
+    Ok(())
+}
+
+fn row_change(
+    alloc: Global,
+    incarnation: u64,
+    key: &[u8],
+    mutations: MutationList,
+) -> Result<RowChange, Fail>
+    requires { HaveShort mutations }
+    ensures { IfOk result (λ change. HaveShort change.mutations) }
+{
+    let key = RowKey::new(alloc, key)?.ok_or("key")?;
+    Ok(RowChange {
+        incarnation,
+        key,
+        mutations,
+    })
+}
+
+// Three rows of two tables, of which one is set, deleted and set anew.
+fn three_rows(alloc: Global) -> Result<RowChangeList, Fail>
+    ensures { IfOk result (λ changes. AreShortChanges changes) }
+{
+    let column = ("f", b'q');
+    let mut changes = RowChangeList::new(alloc);
+    changes.push(row_change(alloc, 1, b"a", set(alloc, column, 1000, b'1')?)?)?;
+    changes.push(row_change(alloc, 2, b"a", set(alloc, column, 1000, b'2')?)?)?;
+    changes.push(row_change(alloc, 1, b"a", delete_row(alloc)?)?)?;
+    changes.push(row_change(alloc, 1, b"b", set(alloc, column, 1000, b'3')?)?)?;
+    changes.push(row_change(alloc, 1, b"a", set(alloc, column, 2000, b'4')?)?)?;
+    Ok(changes)
+}
+
+// Deletes the row of the second table, and one that is not there.
+fn two_rows_gone(alloc: Global) -> Result<RowChangeList, Fail>
+    ensures { IfOk result (λ changes. AreShortChanges changes) }
+{
+    let mut changes = RowChangeList::new(alloc);
+    changes.push(row_change(alloc, 2, b"a", delete_row(alloc)?)?)?;
+    changes.push(row_change(alloc, 3, b"a", delete_row(alloc)?)?)?;
+    Ok(changes)
+}
+
+#[test]
+fn rows_of_several_tables_change_together(rt: HostRuntime) -> Result<(), Fail> {
+    let alloc = rt.alloc();
+    let mut all = AllContents::new(alloc);
+    all.change_all(alloc, three_rows(alloc)?)?;
+    let range = range(alloc, b"", None)?;
+    let rows = all.rows_of(1).ok_or("rows")?;
+    assert!(rt; keys_are(&rows.keys_in(alloc, &range)?, b"ab"));
+    assert!(rt; first_row_is(alloc, rows, b"4")?);
+    assert!(rt; first_row_is(alloc, all.rows_of(2).ok_or("rows")?, b"2")?);
+    all.change_all(alloc, two_rows_gone(alloc)?)?;
+    assert!(rt; all.rows_of(2).is_none());
+    assert!(rt; all.rows_of(3).is_none());
+    all.forget(1);
+    assert!(rt; all.rows_of(1).is_none());
+    Ok(())
+}

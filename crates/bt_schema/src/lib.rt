@@ -1,0 +1,15 @@
+//! The tables without their rows, and what an entry of the history changes in them.
+#![tactic(auto)]
+
+mod changes;
+mod checks;
+mod families;
+mod refusal;
+mod schema;
+
+pub use families::{has_family, is_family_of};
+pub use refusal::SchemaRefusal;
+pub use schema::{Schema, set_retention};
+
+#[cfg(test)]
+mod tests;
