@@ -1,20 +1,25 @@
 -- No reply has a float in it.
-use Rattle.std.proofs.Common.{◌≡◌, ℕ, List, [], ◌∷◌, Option, Some, None, Bool, true, false, ◌||◌, Ordering, Less, Equal, Greater, refl}
-use Rattle.std.specs.Prelude.{codes, decimal, map, not, ◌==◌}
+use Rattle.std.proofs.Common.{◌≡◌, ℕ, List, [], ◌∷◌, Option, Some, None, Bool, true, false, ◌||◌, Ordering, Less, Equal, Greater, refl, ap, ◌∙◌, subst}
+use Rattle.std.specs.Prelude.{codes, decimal, map, not, pos, ◌+◌, ◌==◌}
 use Rattle.std.specs.Fmt.{signed_decimal}
 use Rattle.std.specs.Ordering.{nat_cmp, match_ordering}
 use Rattle.std.specs.Cmp.Lexicographic.{slice_cmp}
 use Rattle.bt_types.specs.declared.cell.Cell.{Cell}
 use Rattle.bt_chunks.specs.declared.chunk.Chunk.{Chunk}
+use Rattle.bt_rules.specs.declared.family.Family.{Family}
+use Rattle.bt_rules.specs.declared.rule.Rule.{Rule}
+use Rattle.bt_rules.specs.declared.rule.Rule.TheOpen.{Rule-F}
+use Rattle.bt_rules.specs.declared.rule.Rule.TheFolds.{fold-roll-Rule, ind-Rule, map-Rule}
 use Rattle.bt_entry.specs.declared.table_info.TableInfo.{TableInfo}
 use Rattle.serde_json.specs.Data.{Data, array, boolean, number, string, unsigned, object, Members, no_members, member, put}
 use Rattle.serde_json.specs.View.{items_of}
 use Rattle.serde_json.specs.Written.{has_float, items_have_float, members_have_float}
-use Rattle.bt_messages.specs.Chunks.{with_time, base64, chunk_data, is_new_family, is_new_column, is_first}
-use Rattle.bt_messages.specs.Lines.{families_data, families_onto, is_nonempty, response_data, status_data, with_if, with_number, with_text}
-use Rattle.bt_messages.specs.Responses.{is_nonzero, names_of, shown, shown_bytes, shown_chunk, shown_chunks, shown_label, shown_name, shown_table, with_bytes, with_int64, with_some}
+use Rattle.bt_messages.specs.Chunks.{with_time, base64, chunk_data, shown_label, is_new_family, is_new_column, is_first}
+use Rattle.bt_messages.specs.Lines.{is_nonempty, object_with, response_data, status_data, status_members, with_if, with_number, with_some, with_text}
+use Rattle.bt_messages.specs.Responses.{families_onto, is_nonzero, shown, shown_bytes, shown_families, shown_family, shown_node, shown_rule, shown_rules, shown_status, shown_statuses, shown_statuses_from, shown_stream, shown_table_name, shown_table_names, shown_chunk, shown_chunks, shown_name, shown_table, with_bytes, with_int64}
+use Rattle.bt_messages.specs.declared.response.EntryStatus.{EntryStatus}
 use Rattle.bt_messages.specs.declared.response.Response.{Response}
-use Rattle.bt_messages.specs.declared.response.Response.TheVariants.{CreateTable, MutateRow, ReadRows}
+use Rattle.bt_messages.specs.declared.response.Response.TheVariants.{CreateTable, GetTable, ListTables, DeleteTable, UpdateTable, ModifyColumnFamilies, DropRowRange, MutateRow, MutateRows, ReadRows}
 
 neither : (a b : Bool) → a ≡ false → b ≡ false → (a || b) ≡ false
 neither a b p q = rw p q
@@ -41,9 +46,9 @@ with_if_plain : (b : Bool) (k : List ℕ) (d : Data) (ms : Members) → has_floa
 with_if_plain true k d ms p q = put_plain k d ms p q
 with_if_plain false k d ms p q = q
 
-families_plain : (ms : Members) (fs : List (List ℕ)) → members_have_float ms ≡ false → members_have_float (families_onto ms fs) ≡ false
-families_plain ms [] q = q
-families_plain ms (f ∷ fs) q = families_plain (put f (object no_members) ms) fs (put_plain f (object no_members) ms refl q)
+with_some_plain : {A : Type 0} (k : List ℕ) (show : A → Data) (o : Option A) (ms : Members) → ((x : A) → has_float (show x) ≡ false) → members_have_float ms ≡ false → members_have_float (with_some k show o ms) ≡ false
+with_some_plain k show None ms p q = q
+with_some_plain k show (Some x) ms p q = put_plain k (show x) ms (p x) q
 
 pub chunk_plain : (key : List ℕ) (before : Option Cell) (c : Cell) (last : Bool) → has_float (chunk_data key before c last) ≡ false
 chunk_plain key before c last =
@@ -51,27 +56,90 @@ chunk_plain key before c last =
     let time = with_time c value in
     let row = with_if (is_first before) (codes "rowKey") (string (base64 key)) time in
     let column = with_if (is_new_column before c) (codes "qualifier") (string (base64 c.qualifier)) row in
-    let family = with_if (is_new_family before c) (codes "familyName") (string c.family) column in
+    let labels = with_some (codes "labels") shown_label c.label column in
+    let family = with_if (is_new_family before c) (codes "familyName") (string c.family) labels in
     let p0 : members_have_float value ≡ false = with_if_plain (is_nonempty c.value) (codes "value") (string (base64 c.value)) no_members refl refl in
     let p1 : members_have_float time ≡ false = with_if_plain (not (c.at == 0)) (codes "timestampMicros") (string (decimal c.at)) value refl p0 in
     let p2 : members_have_float row ≡ false = with_if_plain (is_first before) (codes "rowKey") (string (base64 key)) time refl p1 in
     let p3 : members_have_float column ≡ false = with_if_plain (is_new_column before c) (codes "qualifier") (string (base64 c.qualifier)) row refl p2 in
-    let p4 : members_have_float family ≡ false = with_if_plain (is_new_family before c) (codes "familyName") (string c.family) column refl p3 in
-    with_if_plain last (codes "commitRow") (boolean true) family refl p4
+    let p4 : members_have_float labels ≡ false = with_some_plain (codes "labels") shown_label c.label column (λ t. refl) p3 in
+    let p5 : members_have_float family ≡ false = with_if_plain (is_new_family before c) (codes "familyName") (string c.family) labels refl p4 in
+    with_if_plain last (codes "commitRow") (boolean true) family refl p5
+
+members_plain : (code : ℕ) (text : List ℕ) → has_float (status_members code text) ≡ false
+members_plain code text =
+    let said : members_have_float (with_text (codes "message") text no_members) ≡ false = with_if_plain (is_nonempty text) (codes "message") (string text) no_members refl refl in
+    with_if_plain (not (code == 0)) (codes "code") (number (unsigned code)) (with_text (codes "message") text no_members) refl said
 
 pub status_plain : (code : ℕ) (text : List ℕ) → has_float (status_data code text) ≡ false
-status_plain code text =
-    let said : members_have_float (with_text (codes "message") text no_members) ≡ false = with_if_plain (is_nonempty text) (codes "message") (string text) no_members refl refl in
-    neither _ false (with_if_plain (not (code == 0)) (codes "code") (number (unsigned code)) (with_text (codes "message") text no_members) refl said) refl
+status_plain code text = neither (has_float (status_members code text)) false (members_plain code text) refl
 
-with_some_plain : {A : Type 0} (k : List ℕ) (show : A → Data) (o : Option A) (ms : Members) → ((x : A) → has_float (show x) ≡ false) → members_have_float ms ≡ false → members_have_float (with_some k show o ms) ≡ false
-with_some_plain k show None ms p q = q
-with_some_plain k show (Some x) ms p q = put_plain k (show x) ms (p x) q
+-- no float is in what is shown of a rule
+abbrev IsPlain : Rule → Type 0
+IsPlain rule = has_float (shown_rule rule) ≡ false
+
+abbrev PlainRule : Type 0
+PlainRule = (r : Rule) × IsPlain r
+
+abbrev its_rule : PlainRule → Rule
+its_rule p = p.0
+
+rules_plain : (ps : List PlainRule) → items_have_float (items_of (map shown_rule (map its_rule ps))) ≡ false
+rules_plain [] = refl
+rules_plain (p ∷ ps) = neither (has_float (shown_rule (its_rule p))) (items_have_float (items_of (map shown_rule (map its_rule ps)))) p.1 (rules_plain ps)
+
+abbrev NodeIsPlain : Rule-F Rule → Type 0
+NodeIsPlain x = has_float (shown_node (map-Rule Rule Data shown_rule x)) ≡ false
+
+-- a list of rules, in an object of one member
+listed_plain : (key : List ℕ) (ps : List PlainRule) → has_float (object_with key (shown_rules (map shown_rule (map its_rule ps)))) ≡ false
+listed_plain key ps = neither _ false (neither _ false (rules_plain ps) refl) refl
+
+node_plain : (y : Rule-F PlainRule) → NodeIsPlain (map-Rule PlainRule Rule its_rule y)
+node_plain (Rule-F.Versions n) = refl
+node_plain (Rule-F.Age n) = refl
+node_plain (Rule-F.Intersection parts) = listed_plain (codes "intersection") parts
+node_plain (Rule-F.Union parts) = listed_plain (codes "union") parts
+
+rule_plain : (r : Rule) → IsPlain r
+rule_plain = ind-Rule IsPlain (λ x y is. ap has_float (fold-roll-Rule Data shown_node x) ∙ subst NodeIsPlain is (node_plain y))
+
+family_plain : (f : Family) → has_float (shown_family f) ≡ false
+family_plain f = with_some_plain (codes "gcRule") shown_rule f.rule no_members rule_plain refl
+
+families_plain : (ms : Members) (fs : List Family) → members_have_float ms ≡ false → members_have_float (families_onto ms fs) ≡ false
+families_plain ms [] q = q
+families_plain ms (f ∷ fs) q = families_plain (put f.name (shown_family f) ms) fs (put_plain f.name (shown_family f) ms (family_plain f) q)
 
 shown_table_plain : (t : TableInfo) → has_float (shown_table t) ≡ false
 shown_table_plain t =
     let named = put (codes "granularity") (string (codes "MILLIS")) (put (codes "name") (string t.name) no_members) in
-    with_if_plain (is_nonempty t.families) (codes "columnFamilies") (families_data (names_of t.families)) named (families_plain no_members (names_of t.families) refl) refl
+    let families = with_if (is_nonempty t.families) (codes "columnFamilies") (shown_families t.families) named in
+    let p : members_have_float families ≡ false = with_if_plain (is_nonempty t.families) (codes "columnFamilies") (shown_families t.families) named (families_plain no_members t.families refl) refl in
+    with_if_plain (not (t.retention == 0)) (codes "changeStreamConfig") (shown_stream t.retention) families refl p
+
+pub table_plain : (t : TableInfo) → has_float (response_data (shown_table t)) ≡ false
+table_plain t = neither (has_float (shown_table t)) false (shown_table_plain t) refl
+
+names_plain : (names : List (List ℕ)) → items_have_float (items_of (map shown_table_name names)) ≡ false
+names_plain [] = refl
+names_plain (n ∷ ns) = names_plain ns
+
+shown_names_plain : (names : List (List ℕ)) → has_float (shown_table_names names) ≡ false
+shown_names_plain names = with_if_plain (is_nonempty names) (codes "tables") (array (items_of (map shown_table_name names))) no_members (names_plain names) refl
+
+shown_status_plain : (index : ℕ) (s : EntryStatus) → has_float (shown_status index s) ≡ false
+shown_status_plain index s =
+    let said = put (codes "status") (status_members s.code s.text) no_members in
+    let p : members_have_float said ≡ false = put_plain (codes "status") (status_members s.code s.text) no_members (members_plain s.code s.text) refl in
+    with_if_plain (is_nonzero (pos index)) (codes "index") (string (signed_decimal (pos index))) said refl p
+
+statuses_plain : (index : ℕ) (ss : List EntryStatus) → items_have_float (items_of (shown_statuses_from index ss)) ≡ false
+statuses_plain index [] = refl
+statuses_plain index (s ∷ ss) = neither (has_float (shown_status index s)) (items_have_float (items_of (shown_statuses_from (index + 1) ss))) (shown_status_plain index s) (statuses_plain (index + 1) ss)
+
+shown_statuses_plain : (ss : List EntryStatus) → has_float (shown_statuses ss) ≡ false
+shown_statuses_plain ss = with_if_plain (is_nonempty ss) (codes "entries") (array (items_of (shown_statuses_from 0 ss))) no_members (statuses_plain 0 ss) refl
 
 shown_chunk_plain : (c : Chunk) → has_float (shown_chunk c) ≡ false
 shown_chunk_plain c =
@@ -99,6 +167,13 @@ shown_chunks_plain : (cs : List Chunk) → has_float (shown_chunks cs) ≡ false
 shown_chunks_plain cs = with_if_plain (is_nonempty cs) (codes "chunks") (array (items_of (map shown_chunk cs))) no_members (items_plain cs) refl
 
 pub shown_plain : (r : Response) → has_float (response_data (shown r)) ≡ false
-shown_plain (CreateTable t) = neither (has_float (shown_table t)) false (shown_table_plain t) refl
+shown_plain (CreateTable t) = table_plain t
+shown_plain (GetTable t) = table_plain t
+shown_plain (ListTables names) = neither (has_float (shown_table_names names)) false (shown_names_plain names) refl
+shown_plain DeleteTable = refl
+shown_plain (UpdateTable t) = table_plain t
+shown_plain (ModifyColumnFamilies t) = table_plain t
+shown_plain DropRowRange = refl
 shown_plain MutateRow = refl
+shown_plain (MutateRows ss) = neither (has_float (shown_statuses ss)) false (shown_statuses_plain ss) refl
 shown_plain (ReadRows cs) = neither (has_float (shown_chunks cs)) false (shown_chunks_plain cs) refl

@@ -7,9 +7,9 @@ use Rattle.std.proofs.lemmas.Str.{IsUtf8-from_is_utf8, is_utf8-from_IsUtf8, utf8
 use Rattle.bt_types.specs.Grammar.{is_family_name, is_row_key}
 use Rattle.bt_entry.proofs.LawfulNames.{is_no_family, key_len}
 use Rattle.serde_json.specs.Data.{Data, boolean, string, object, Members, no_members, put}
-use Rattle.bt_messages.specs.Chunks.{base64, is_first, is_new_column, is_new_family, with_time}
-use Rattle.bt_messages.specs.Lines.{is_nonempty, with_if}
-use Rattle.bt_messages.specs.Responses.{CellsAreShownAlike, shown_bytes, shown_name, where_asked, with_bytes, with_some}
+use Rattle.bt_messages.specs.Chunks.{base64, is_first, is_new_column, is_new_family, shown_label, with_time}
+use Rattle.bt_messages.specs.Lines.{is_nonempty, with_if, with_some}
+use Rattle.bt_messages.specs.Responses.{CellsAreShownAlike, shown_bytes, shown_name, where_asked, with_bytes}
 
 is_text : (b : List ℕ) (t : Bool) → is_utf8 b ≡ t → is_family_name b ≡ true → IsUtf8 b
 is_text b true e h = IsUtf8-from_is_utf8 b e
@@ -42,10 +42,11 @@ cells_are_shown_alike key before c last row name =
     let timed = with_time c (with_bytes (codes "value") c.value no_members) in
     let in_row = with_bytes (codes "rowKey") (if first then key else []) timed in
     let in_column = with_some (codes "qualifier") shown_bytes (where_asked column c.qualifier) in_row in
+    let labelled = with_some (codes "labels") shown_label c.label in_column in
     let text : shown_name c.family ≡ string c.family = ap string (utf8_lossy-IsUtf8 c.family (is_text c.family (is_utf8 c.family) refl name)) in
     ap (λ ms. object (with_if last (codes "commitRow") (boolean true) ms))
-    (asked_for family (codes "familyName") shown_name c.family (string c.family) in_column text
-    ∙ ap (λ ms. with_if family (codes "familyName") (string c.family) ms)
+    (asked_for family (codes "familyName") shown_name c.family (string c.family) labelled text
+    ∙ ap (λ ms. with_if family (codes "familyName") (string c.family) (with_some (codes "labels") shown_label c.label ms))
     (asked_for column (codes "qualifier") shown_bytes c.qualifier (string (base64 c.qualifier)) in_row refl
     ∙ ap (λ ms. with_if column (codes "qualifier") (string (base64 c.qualifier)) ms)
     (keyed first key timed (some_bytes key row))))

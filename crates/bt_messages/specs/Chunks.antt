@@ -4,10 +4,10 @@ use Rattle.std.specs.List.{flat_map}
 use Rattle.base64.specs.Engines.{standard}
 use Rattle.base64.specs.GeneralPurpose.{encode_of}
 use Rattle.bt_types.specs.declared.cell.Cell.{Cell}
-use Rattle.serde_json.specs.Data.{Data, boolean, string, array, object, Members, no_members}
+use Rattle.serde_json.specs.Data.{Data, boolean, string, array, object, item, no_items, Members, no_members}
 use Rattle.serde_json.specs.View.{items_of}
 use Rattle.serde_json.specs.Written.{compact_text}
-use Rattle.bt_messages.specs.Lines.{line_of, object_with, response_data, with_if, is_nonempty}
+use Rattle.bt_messages.specs.Lines.{line_of, object_with, response_data, with_if, with_some, is_nonempty}
 
 -- bytes as a string of standard base64
 unfoldable pub base64 : List ℕ → List ℕ
@@ -32,15 +32,20 @@ is_new_column (Some p) c = if bytes_eq p.family c.family then not (bytes_eq p.qu
 abbrev pub with_time : Cell → Members → Members
 with_time c ms = with_if (not (c.at == 0)) (codes "timestampMicros") (string (decimal c.at)) ms
 
+-- the list of one label
+abbrev pub shown_label : List ℕ → Data
+shown_label text = array (item (string text) no_items)
+
 -- the chunk of a cell, after the cell before it in the row
 abbrev pub chunk_data : List ℕ → Option Cell → Cell → Bool → Data
 chunk_data key before c last =
     object (with_if last (codes "commitRow") (boolean true)
     (with_if (is_new_family before c) (codes "familyName") (string c.family)
+    (with_some (codes "labels") shown_label c.label
     (with_if (is_new_column before c) (codes "qualifier") (string (base64 c.qualifier))
     (with_if (is_first before) (codes "rowKey") (string (base64 key))
     (with_time c
-    (with_if (is_nonempty c.value) (codes "value") (string (base64 c.value)) no_members))))))
+    (with_if (is_nonempty c.value) (codes "value") (string (base64 c.value)) no_members)))))))
 
 -- no cell is left
 abbrev pub is_end : List Cell → Bool

@@ -1,5 +1,5 @@
 -- Lines of replies: a JSON object without spaces, and a line feed.
-use Rattle.std.specs.Prelude.{ℕ, ◌==◌, Bool, not, List, [], ◌∷◌, ◌++◌, length, codes, if◌then◌else◌}
+use Rattle.std.specs.Prelude.{ℕ, ◌==◌, Bool, not, List, [], ◌∷◌, ◌++◌, length, codes, Option, Some, None, if◌then◌else◌}
 use Rattle.serde_json.specs.Data.{Data, number, unsigned, string, object, Members, no_members, member, put}
 use Rattle.serde_json.specs.Written.{compact_text}
 
@@ -19,6 +19,11 @@ response_data d = object_with (codes "response") d
 abbrev pub with_if : Bool → List ℕ → Data → Members → Members
 with_if asked k d ms = if asked then put k d ms else ms
 
+-- the members, with what is shown of x at k where there is an x: a wrapper may be empty
+abbrev pub with_some : {A : Type 0} → List ℕ → (A → Data) → Option A → Members → Members
+with_some k show None ms = ms
+with_some k show (Some x) ms = put k (show x) ms
+
 -- there are some items
 abbrev pub is_nonempty : {A : Type 0} → List A → Bool
 is_nonempty xs = not (length xs == 0)
@@ -31,9 +36,13 @@ with_text k text ms = with_if (is_nonempty text) k (string text) ms
 abbrev pub with_number : List ℕ → ℕ → Members → Members
 with_number k n ms = with_if (not (n == 0)) k (number (unsigned n)) ms
 
--- the last line of a request: the code (google.rpc.Code) and the message
+-- a status (google.rpc.Status): the code (google.rpc.Code) and the message
+abbrev pub status_members : ℕ → List ℕ → Data
+status_members code text = object (with_number (codes "code") code (with_text (codes "message") text no_members))
+
+-- the last line of a request
 abbrev pub status_data : ℕ → List ℕ → Data
-status_data code text = object_with (codes "status") (object (with_number (codes "code") code (with_text (codes "message") text no_members)))
+status_data code text = object_with (codes "status") (status_members code text)
 
 -- the last line of a request that was served
 abbrev pub ok_data : Data
@@ -42,12 +51,3 @@ ok_data = object_with (codes "status") (object no_members)
 -- the last line of a request that was served, as bytes
 abbrev pub ok_line : List ℕ
 ok_line = line_of ok_data
-
--- the members, with an empty object at each name
-abbrev pub families_onto : Members → List (List ℕ) → Members
-families_onto ms [] = ms
-families_onto ms (f ∷ fs) = families_onto (put f (object no_members) ms) fs
-
--- the families of a table, each without a collection rule
-abbrev pub families_data : List (List ℕ) → Data
-families_data families = object (families_onto no_members families)

@@ -3,7 +3,7 @@ use Rattle.std.specs.Prelude.{ℕ, List, ◌++◌, codes}
 use Rattle.std.specs.Str.Lossy.{utf8_lossy}
 use Rattle.bt_messages.specs.Lines.{line_of, status_data}
 use Rattle.bt_messages.specs.declared.refusal.Refusal.{Refusal}
-use Rattle.bt_messages.specs.declared.refusal.Refusal.TheVariants.{NotJson, BadEnvelope, UnknownMethod, NotBuilt, BadName, TableNotFound, TableExists, BadRowKey, NoMutations, TooManyMutations, MutationWithoutKind, FamilyNotFound, QualifierTooLong, BadTimestamp, ValueTooLarge, BadFamilyName, TooManyFamilies, TooManyTables, ChangeTooLarge, OutOfMemory, DiskFailed, LineTooLong, ConnectionTooLong, LineNotEnded}
+use Rattle.bt_messages.specs.declared.refusal.Refusal.TheVariants.{NotJson, NoEntries, BadTimeRange, BadGcRule, BadRetention, BadPageToken, NoModifications, ModificationWithoutKind, FlagNotTrue, FamilyExists, BadUpdateMask, NoTarget, BadEnvelope, UnknownMethod, NotBuilt, BadName, TableNotFound, TableExists, BadRowKey, NoMutations, TooManyMutations, MutationWithoutKind, FamilyNotFound, QualifierTooLong, BadTimestamp, ValueTooLarge, BadFamilyName, TooManyFamilies, TooManyTables, ChangeTooLarge, OutOfMemory, DiskFailed, LineTooLong, ConnectionTooLong, LineNotEnded}
 
 -- the code of a refusal
 abbrev pub refusal_code : Refusal → ℕ
@@ -15,6 +15,7 @@ refusal_code BadName = 3
 refusal_code TableNotFound = 5
 refusal_code TableExists = 6
 refusal_code BadRowKey = 3
+refusal_code NoEntries = 3
 refusal_code NoMutations = 3
 refusal_code TooManyMutations = 3
 refusal_code MutationWithoutKind = 3
@@ -22,7 +23,17 @@ refusal_code FamilyNotFound = 5
 refusal_code QualifierTooLong = 3
 refusal_code BadTimestamp = 3
 refusal_code ValueTooLarge = 3
+refusal_code BadTimeRange = 3
 refusal_code BadFamilyName = 3
+refusal_code BadGcRule = 3
+refusal_code BadRetention = 3
+refusal_code BadPageToken = 3
+refusal_code NoModifications = 3
+refusal_code ModificationWithoutKind = 3
+refusal_code FlagNotTrue = 3
+refusal_code FamilyExists = 6
+refusal_code BadUpdateMask = 3
+refusal_code NoTarget = 3
 refusal_code TooManyFamilies = 9
 refusal_code TooManyTables = 9
 refusal_code ChangeTooLarge = 9
@@ -42,6 +53,7 @@ refusal_text BadName = codes "bad name"
 refusal_text TableNotFound = codes "table not found"
 refusal_text TableExists = codes "table exists"
 refusal_text BadRowKey = codes "bad row key"
+refusal_text NoEntries = codes "no entries"
 refusal_text NoMutations = codes "no mutations"
 refusal_text TooManyMutations = codes "too many mutations"
 refusal_text MutationWithoutKind = codes "mutation without kind"
@@ -49,7 +61,17 @@ refusal_text FamilyNotFound = codes "family not found"
 refusal_text QualifierTooLong = codes "qualifier too long"
 refusal_text BadTimestamp = codes "bad timestamp"
 refusal_text ValueTooLarge = codes "value too large"
+refusal_text BadTimeRange = codes "bad time range"
 refusal_text BadFamilyName = codes "bad family name"
+refusal_text BadGcRule = codes "bad gc rule"
+refusal_text BadRetention = codes "bad retention"
+refusal_text BadPageToken = codes "bad page token"
+refusal_text NoModifications = codes "no modifications"
+refusal_text ModificationWithoutKind = codes "modification without kind"
+refusal_text FlagNotTrue = codes "flag not true"
+refusal_text FamilyExists = codes "family exists"
+refusal_text BadUpdateMask = codes "bad update mask"
+refusal_text NoTarget = codes "no target"
 refusal_text TooManyFamilies = codes "too many families"
 refusal_text TooManyTables = codes "too many tables"
 refusal_text ChangeTooLarge = codes "change too large"

@@ -4,6 +4,7 @@ ghost use Rattle.serde_json.specs.View.{view, members_view};
 ghost use Rattle.bt_messages.specs.Chunks.{with_time, chunk_data, is_first, is_new_family, is_new_column};
 ghost use Rattle.bt_messages.specs.Lines.{is_nonempty};
 
+use crate::chunk_value::put_label;
 use crate::members::{put_bytes, put_text, put_true};
 use bt_base::OutOfMemory;
 use bt_text::print_int64;
@@ -30,6 +31,7 @@ pub(crate) fn chunk_of(
     let column = is_new_column(before, cell);
     let qualifier = cell.qualifier.bytes();
     put_bytes(alloc, &mut chunk, column, "qualifier", qualifier)?;
+    put_label(alloc, &mut chunk, &cell.label)?;
     let family = is_new_family(before, cell);
     put_text(alloc, &mut chunk, family, "familyName", cell.family.text())?;
     put_true(alloc, &mut chunk, last, "commitRow")?;

@@ -1,8 +1,9 @@
 //! The JSON of chunks.
 ghost use Rattle.std.specs.Prelude.{◌≡◌, IfOk, OnOk, codes, map};
 ghost use Rattle.serde_json.specs.View.{view, members_view};
-ghost use Rattle.bt_messages.specs.Lines.{is_nonempty};
-ghost use Rattle.bt_messages.specs.Responses.{shown_bytes, shown_chunk, shown_chunks, shown_label, shown_name, with_bytes, with_some};
+ghost use Rattle.bt_messages.specs.Lines.{is_nonempty, with_some};
+ghost use Rattle.bt_messages.specs.Chunks.{shown_label};
+ghost use Rattle.bt_messages.specs.Responses.{shown_bytes, shown_chunk, shown_chunks, shown_name, with_bytes};
 
 use crate::members::{put_bytes, put_int64, put_number, put_true};
 use bt_base::{Blob, OutOfMemory};
@@ -86,7 +87,7 @@ fn put_qualifier(
     Ok(())
 }
 
-fn put_label(
+pub(crate) fn put_label(
     alloc: Global,
     members: &mut Map<String, Value>,
     label: &Option<Label>,

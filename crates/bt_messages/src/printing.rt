@@ -2,14 +2,15 @@
 ghost use Rattle.std.specs.Prelude.{◌≡◌, ◌++◌, IfOk};
 ghost use Rattle.serde_json.specs.View.{view};
 ghost use Rattle.bt_messages.specs.Lines.{line_of, ok_line, response_data, status_data};
-ghost use Rattle.bt_messages.specs.Responses.{shown};
+ghost use Rattle.bt_messages.specs.Responses.{shown, shown_table};
 
 use crate::chunk_value::chunks_value;
 use crate::lines::{line, ok_line};
-use crate::members::{put_number, put_text};
 use crate::response::Response;
-use crate::table_value::table_value;
+use crate::status_value::{status_members, statuses_value};
+use crate::table_value::{table_names_value, table_value};
 use bt_base::{Blob, OutOfMemory};
+use bt_entry::TableInfo;
 use serde_json::{Map, Value, json};
 use std::alloc::Global;
 
@@ -33,6 +34,31 @@ pub fn served_lines(alloc: Global, response: &Response) -> Result<Blob, OutOfMem
     Ok(Blob::from_vec(out))
 }
 
+/// The lines of a request whose one response is a table: the line of that table
+/// (`google.bigtable.admin.v2.Table`), and the status of success.
+pub fn table_lines(alloc: Global, table: &TableInfo) -> Result<Blob, OutOfMemory>
+    ensures { IfOk result (λ out. out ≡ line_of (response_data (shown_table table.now)) ++ ok_line) }
+{
+    let value = table_response(alloc, table)?;
+    let mut out = line(alloc, &value)?;
+    out.extend_from_slice(ok_line())?;
+    Ok(Blob::from_vec(out))
+}
+
+fn table_response(alloc: Global, table: &TableInfo) -> Result<Value, OutOfMemory>
+    ensures { IfOk result (λ v. view v ≡ response_data (shown_table table.now)) }
+{
+    let shown = table_value(alloc, table)?;
+    response_object(alloc, shown)
+}
+
+fn response_object(alloc: Global, shown: Value) -> Result<Value, OutOfMemory>
+    ensures { IfOk result (λ v. view v ≡ response_data (view shown)) }
+{
+    let value = json!(in alloc; {"response": shown})?;
+    Ok(value)
+}
+
 /// The line of a status (`google.rpc.Status`), with its line feed. Code 0 and an empty text are left
 /// out, so that success is `{"status":{}}`.
 pub fn status_line(alloc: Global, code: u8, text: &str) -> Result<Blob, OutOfMemory>
@@ -54,8 +80,7 @@ fn response_value(alloc: Global, response: &Response) -> Result<Value, OutOfMemo
     ensures { IfOk result (λ v. view v ≡ response_data (shown response.now)) }
 {
     let shown = shown_value(alloc, response)?;
-    let value = json!(in alloc; {"response": shown})?;
-    Ok(value)
+    response_object(alloc, shown)
 }
 
 fn shown_value(alloc: Global, response: &Response) -> Result<Value, OutOfMemory>
@@ -63,7 +88,14 @@ fn shown_value(alloc: Global, response: &Response) -> Result<Value, OutOfMemory>
 {
     match response {
         Response::CreateTable(table) => table_value(alloc, table),
+        Response::GetTable(table) => table_value(alloc, table),
+        Response::ListTables(names) => table_names_value(alloc, names.items()),
+        Response::DeleteTable => Ok(Value::Object(Map::new(alloc))),
+        Response::UpdateTable(table) => table_value(alloc, table),
+        Response::ModifyColumnFamilies(table) => table_value(alloc, table),
+        Response::DropRowRange => Ok(Value::Object(Map::new(alloc))),
         Response::MutateRow => Ok(Value::Object(Map::new(alloc))),
+        Response::MutateRows(statuses) => statuses_value(alloc, statuses.items()),
         Response::ReadRows(chunks) => chunks_value(alloc, chunks),
     }
 }
@@ -71,11 +103,7 @@ fn shown_value(alloc: Global, response: &Response) -> Result<Value, OutOfMemory>
 fn status_value(alloc: Global, code: u8, text: &str) -> Result<Value, OutOfMemory>
     ensures { IfOk result (λ v. view v ≡ status_data code text.now) }
 {
-    let mut members = Map::new(alloc);
-    let said = !text.as_bytes().is_empty();
-    put_text(alloc, &mut members, said, "message", text)?;
-    put_number(alloc, &mut members, "code", u32::from(code))?;
-    let status = Value::Object(members);
+    let status = status_members(alloc, code, text)?;
     let value = json!(in alloc; {"status": status})?;
     Ok(value)
 }

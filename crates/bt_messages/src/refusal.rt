@@ -19,6 +19,8 @@ pub enum Refusal {
     TableExists,
     /// The row key is empty, or has more than 4,096 bytes.
     BadRowKey,
+    /// The request has no entries.
+    NoEntries,
     /// The request has no mutations.
     NoMutations,
     /// The request has more than 100,000 mutations.
@@ -33,8 +35,29 @@ pub enum Refusal {
     BadTimestamp,
     /// A value has more than 4,194,304 bytes.
     ValueTooLarge,
+    /// The start or the end of a range of times is negative.
+    BadTimeRange,
     /// The name of a family to be made is not of 1 to 64 of the characters `-_.a-zA-Z0-9`.
     BadFamilyName,
+    /// A collection rule has a number below 1, an age below a millisecond, a list without rules, a rule
+    /// without kind, more than 32 rules, or more than 8 levels.
+    BadGcRule,
+    /// Changes are to be kept for a change stream for less than one day, or for more than seven.
+    BadRetention,
+    /// A page token was given; there is only one page.
+    BadPageToken,
+    /// The request has no modifications.
+    NoModifications,
+    /// A modification has none of `create`, `update` and `drop`.
+    ModificationWithoutKind,
+    /// A flag that can only be true was given as false.
+    FlagNotTrue,
+    /// A family is to be made that is there already.
+    FamilyExists,
+    /// The update mask is not the change stream's, which alone can be updated.
+    BadUpdateMask,
+    /// The request names no rows to be dropped.
+    NoTarget,
     /// The table would have more than 100 families.
     TooManyFamilies,
     /// The service would have more than 1,000 tables.
@@ -55,7 +78,7 @@ pub enum Refusal {
 
 impl Refusal {
     ghost use Rattle.std.specs.Prelude.{◌≡◌};
-    ghost use Rattle.bt_messages.specs.Refusals.{refusal_line};
+    ghost use Rattle.bt_messages.specs.Refusals.{refusal_code, refusal_line, refusal_text};
 
     /// The one line of a refused request, with its line feed. It takes no memory.
     #[tactic(auto, unfolding(crate::proofs::LineTexts::line_on_literals))]
@@ -73,6 +96,7 @@ impl Refusal {
                 b"{\"status\":{\"code\":5,\"message\":\"table not found\"}}\n",
             Refusal::TableExists => b"{\"status\":{\"code\":6,\"message\":\"table exists\"}}\n",
             Refusal::BadRowKey => b"{\"status\":{\"code\":3,\"message\":\"bad row key\"}}\n",
+            Refusal::NoEntries => b"{\"status\":{\"code\":3,\"message\":\"no entries\"}}\n",
             Refusal::NoMutations => b"{\"status\":{\"code\":3,\"message\":\"no mutations\"}}\n",
             Refusal::TooManyMutations =>
                 b"{\"status\":{\"code\":3,\"message\":\"too many mutations\"}}\n",
@@ -85,8 +109,21 @@ impl Refusal {
             Refusal::BadTimestamp => b"{\"status\":{\"code\":3,\"message\":\"bad timestamp\"}}\n",
             Refusal::ValueTooLarge =>
                 b"{\"status\":{\"code\":3,\"message\":\"value too large\"}}\n",
+            Refusal::BadTimeRange => b"{\"status\":{\"code\":3,\"message\":\"bad time range\"}}\n",
             Refusal::BadFamilyName =>
                 b"{\"status\":{\"code\":3,\"message\":\"bad family name\"}}\n",
+            Refusal::BadGcRule => b"{\"status\":{\"code\":3,\"message\":\"bad gc rule\"}}\n",
+            Refusal::BadRetention => b"{\"status\":{\"code\":3,\"message\":\"bad retention\"}}\n",
+            Refusal::BadPageToken => b"{\"status\":{\"code\":3,\"message\":\"bad page token\"}}\n",
+            Refusal::NoModifications =>
+                b"{\"status\":{\"code\":3,\"message\":\"no modifications\"}}\n",
+            Refusal::ModificationWithoutKind =>
+                b"{\"status\":{\"code\":3,\"message\":\"modification without kind\"}}\n",
+            Refusal::FlagNotTrue => b"{\"status\":{\"code\":3,\"message\":\"flag not true\"}}\n",
+            Refusal::FamilyExists => b"{\"status\":{\"code\":6,\"message\":\"family exists\"}}\n",
+            Refusal::BadUpdateMask =>
+                b"{\"status\":{\"code\":3,\"message\":\"bad update mask\"}}\n",
+            Refusal::NoTarget => b"{\"status\":{\"code\":3,\"message\":\"no target\"}}\n",
             Refusal::TooManyFamilies =>
                 b"{\"status\":{\"code\":9,\"message\":\"too many families\"}}\n",
             Refusal::TooManyTables =>
@@ -99,6 +136,92 @@ impl Refusal {
             Refusal::ConnectionTooLong =>
                 b"{\"status\":{\"code\":3,\"message\":\"connection too long\"}}\n",
             Refusal::LineNotEnded => b"{\"status\":{\"code\":3,\"message\":\"line not ended\"}}\n",
+        }
+    }
+
+    /// Its code (`google.rpc.Code`).
+    pub fn code(self) -> u8
+        ensures { result ≡ refusal_code self }
+    {
+        match self {
+            Refusal::NotJson => 3,
+            Refusal::BadEnvelope => 3,
+            Refusal::UnknownMethod => 12,
+            Refusal::NotBuilt => 12,
+            Refusal::BadName => 3,
+            Refusal::TableNotFound => 5,
+            Refusal::TableExists => 6,
+            Refusal::BadRowKey => 3,
+            Refusal::NoEntries => 3,
+            Refusal::NoMutations => 3,
+            Refusal::TooManyMutations => 3,
+            Refusal::MutationWithoutKind => 3,
+            Refusal::FamilyNotFound => 5,
+            Refusal::QualifierTooLong => 3,
+            Refusal::BadTimestamp => 3,
+            Refusal::ValueTooLarge => 3,
+            Refusal::BadTimeRange => 3,
+            Refusal::BadFamilyName => 3,
+            Refusal::BadGcRule => 3,
+            Refusal::BadRetention => 3,
+            Refusal::BadPageToken => 3,
+            Refusal::NoModifications => 3,
+            Refusal::ModificationWithoutKind => 3,
+            Refusal::FlagNotTrue => 3,
+            Refusal::FamilyExists => 6,
+            Refusal::BadUpdateMask => 3,
+            Refusal::NoTarget => 3,
+            Refusal::TooManyFamilies => 9,
+            Refusal::TooManyTables => 9,
+            Refusal::ChangeTooLarge => 9,
+            Refusal::OutOfMemory => 8,
+            Refusal::DiskFailed => 14,
+            Refusal::LineTooLong => 3,
+            Refusal::ConnectionTooLong => 3,
+            Refusal::LineNotEnded => 3,
+        }
+    }
+
+    /// Its text.
+    pub fn text(self) -> &'static str
+        ensures { result.now ≡ refusal_text self }
+    {
+        match self {
+            Refusal::NotJson => "not json",
+            Refusal::BadEnvelope => "bad envelope",
+            Refusal::UnknownMethod => "unknown method",
+            Refusal::NotBuilt => "not built",
+            Refusal::BadName => "bad name",
+            Refusal::TableNotFound => "table not found",
+            Refusal::TableExists => "table exists",
+            Refusal::BadRowKey => "bad row key",
+            Refusal::NoEntries => "no entries",
+            Refusal::NoMutations => "no mutations",
+            Refusal::TooManyMutations => "too many mutations",
+            Refusal::MutationWithoutKind => "mutation without kind",
+            Refusal::FamilyNotFound => "family not found",
+            Refusal::QualifierTooLong => "qualifier too long",
+            Refusal::BadTimestamp => "bad timestamp",
+            Refusal::ValueTooLarge => "value too large",
+            Refusal::BadTimeRange => "bad time range",
+            Refusal::BadFamilyName => "bad family name",
+            Refusal::BadGcRule => "bad gc rule",
+            Refusal::BadRetention => "bad retention",
+            Refusal::BadPageToken => "bad page token",
+            Refusal::NoModifications => "no modifications",
+            Refusal::ModificationWithoutKind => "modification without kind",
+            Refusal::FlagNotTrue => "flag not true",
+            Refusal::FamilyExists => "family exists",
+            Refusal::BadUpdateMask => "bad update mask",
+            Refusal::NoTarget => "no target",
+            Refusal::TooManyFamilies => "too many families",
+            Refusal::TooManyTables => "too many tables",
+            Refusal::ChangeTooLarge => "change too large",
+            Refusal::OutOfMemory => "out of memory",
+            Refusal::DiskFailed => "disk failed",
+            Refusal::LineTooLong => "line too long",
+            Refusal::ConnectionTooLong => "connection too long",
+            Refusal::LineNotEnded => "line not ended",
         }
     }
 }

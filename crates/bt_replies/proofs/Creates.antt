@@ -1,33 +1,47 @@
 -- Tables that are made.
-use Rattle.std.proofs.Common.{◌≡◌, ◌≤◌, ◌<◌, ℕ, ◌+◌, Bool, true, false, List, [], ◌∷◌, ◌++◌, length, map, Option, Some, None, refl, sym, ap, subst, ◌∙◌, append_assoc, arith, cond, ◌&&◌}
-use Rattle.std.specs.Prelude.{IsTrue, is_none, not, nat_le, nat_lt}
+use Rattle.std.proofs.Common.{◌≡◌, ◌≤◌, ℕ, Bool, true, false, List, [], ◌∷◌, length, map, Option, Some, None, refl, ap, cond}
+use Rattle.std.specs.Prelude.{ℤ, pos, negsuc, not, nat_le, nat_lt, ◌||◌, ◌==◌}
 use Rattle.std.specs.List.{AllByRecursion, list_all}
 use Rattle.std.specs.List.Sorted.{IsStrictlySortedBy}
+use Rattle.std.specs.Option.{option_or}
 use Rattle.std.specs.Ordering.{match_ordering, nat_cmp}
 use Rattle.std.specs.declared.cmp.Ordering.TheVariants.{Less}
 use Rattle.std.specs.Cmp.Lexicographic.{slice_cmp}
-use Rattle.std.proofs.lemmas.Bool.{and_from, and_parts, le-leb, le-ltb, lt-leb, lt-ltb, ltb-false, ltb-true}
+use Rattle.std.proofs.lemmas.Bool.{and_from, ltb-false}
 use Rattle.std.proofs.lemmas.List.{length-map}
 use Rattle.bt_types.specs.Grammar.{is_family_name, is_table_name}
-use Rattle.bt_entry.specs.Grammar.{AllFrom, is_below, is_family_behind, last_moment, most_families, name_of}
+use Rattle.bt_entry.specs.Grammar.{AllFrom, IsFamilyBehind, is_below, is_lawful_retention, is_retention, last_moment, most_families, name_of}
 use Rattle.bt_entry.specs.declared.entry.Entry.TheVariants.{Create}
-use Rattle.bt_entry.specs.declared.entry.Family.{Family}
-use Rattle.bt_entry.specs.declared.table_info.TableInfo.{TableInfo}
-use Rattle.bt_messages.specs.Lines.{line_of, ok_line, response_data}
-use Rattle.bt_messages.specs.Responses.{shown}
 use Rattle.bt_messages.specs.declared.refusal.Refusal.{Refusal}
-use Rattle.bt_messages.specs.declared.refusal.Refusal.TheVariants.{BadFamilyName, TooManyFamilies, TooManyTables}
-use Rattle.bt_messages.specs.declared.response.Response.TheVariants.{CreateTable}
-use Rattle.bt_replies.specs.Plans.{IsChange, IsSaid}
-use Rattle.bt_replies.specs.Replies.{Reply, changes, refused, reply_lines, unless_refused}
-use Rattle.bt_replies.specs.Tables.{create_refusal, create_reply, families_of}
-use Rattle.bt_replies.specs.declared.answer.Answer.TheVariants.{Lines, Refused}
+use Rattle.bt_messages.specs.declared.refusal.Refusal.TheVariants.{BadFamilyName, BadGcRule}
+use Rattle.bt_replies.specs.Replies.{event}
+use Rattle.bt_replies.specs.Tables.{create_refusal, families_of, family_refusal, first_refusal, refused_if, retention_refusal, retention_used}
 use Rattle.bt_requests.specs.Readers.{Ascend}
-use Rattle.bt_requests.specs.declared.request.AskedFamily.{AskedFamily}
-use Rattle.bt_state.specs.State.{Present, is_allowed, most_tables, new_table, table_of}
+use Rattle.bt_requests.specs.declared.families.AskedFamily.{AskedFamily}
+use Rattle.bt_rules.specs.Rules.{is_lawful_or_none}
+use Rattle.bt_schema.specs.Schema.{most_tables, table_of}
+use Rattle.bt_state.specs.State.{IsLawful, Present}
 
-abbrev all_lawful : List AskedFamily → Bool
-all_lawful families = list_all (λ f. is_family_name f.name) families
+abbrev no_refusal : Option Refusal
+no_refusal = None
+
+-- neither of two refusals is there
+both_none : (a b : Option Refusal) → option_or a b ≡ no_refusal → (a ≡ no_refusal) × (b ≡ no_refusal)
+both_none None b none = (refl, none)
+both_none (Some e) b none = absurd cc
+
+not_refused : (b : Bool) (why : Refusal) → refused_if b why ≡ no_refusal → b ≡ false
+not_refused true why none = absurd cc
+not_refused false why none = refl
+
+both_pass : (a b : Bool) → cond (not a) (Some BadFamilyName) (cond (not b) (Some BadGcRule) None) ≡ no_refusal → (a ≡ true) × (b ≡ true)
+both_pass true true none = (refl, refl)
+both_pass true false none = absurd cc
+both_pass false b none = absurd cc
+
+-- a family without a fault
+faultless : (f : AskedFamily) → family_refusal f ≡ no_refusal → (is_family_name f.name ≡ true) × (is_lawful_or_none f.rule ≡ true)
+faultless f none = both_pass (is_family_name f.name) (is_lawful_or_none f.rule) none
 
 -- the name, if there is a first one, is above these bytes
 abbrev IsAbove : List ℕ → List AskedFamily → Type 0
@@ -38,85 +52,57 @@ first_above : (n : List ℕ) (fs : List AskedFamily) → AllByRecursion (λ y. s
 first_above n [] all = tt
 first_above n (f ∷ fs) all = all.0
 
--- lawful names that ascend, behind these bytes
-ascend : (before : List ℕ) (fs : List AskedFamily) → all_lawful fs ≡ true → Ascend fs → IsAbove before fs → AllFrom name_of (λ b f. IsTrue (is_family_behind b f.name)) before (families_of fs)
+-- families without faults that ascend, behind these bytes
+ascend : (before : List ℕ) (fs : List AskedFamily) → first_refusal fs ≡ no_refusal → Ascend fs → IsAbove before fs → AllFrom name_of IsFamilyBehind before (families_of fs)
 unfolding IsStrictlySortedBy
-ascend before [] lawful sorted above = tt
-ascend before (f ∷ fs) lawful sorted above =
-    let both = and_parts (is_family_name f.name) (all_lawful fs) lawful in
+ascend before [] none sorted above = tt
+ascend before (f ∷ fs) none sorted above =
+    let both = both_none (family_refusal f) (first_refusal fs) none in
+    let first = faultless f both.0 in
     let below : is_below before f.name ≡ true = ap (λ r. match_ordering r true false false) above in
-    (and_from (is_family_name f.name) (is_below before f.name) both.0 below, ascend f.name fs both.1 sorted.1 (first_above f.name fs sorted.0))
+    ((and_from (is_family_name f.name) (is_below before f.name) first.0 below, first.1), ascend f.name fs both.1 sorted.1 (first_above f.name fs sorted.0))
 
 above_nothing : (name : List ℕ) → is_family_name name ≡ true → slice_cmp nat_cmp [] name ≡ Less
 above_nothing [] lawful = absurd cc
 above_nothing (b ∷ bs) lawful = refl
 
-all_above : (fs : List AskedFamily) → all_lawful fs ≡ true → IsAbove [] fs
-all_above [] lawful = tt
-all_above (f ∷ fs) lawful = above_nothing f.name (and_parts (is_family_name f.name) (all_lawful fs) lawful).0
+all_above : (fs : List AskedFamily) → first_refusal fs ≡ no_refusal → IsAbove [] fs
+all_above [] none = tt
+all_above (f ∷ fs) none = above_nothing f.name (faultless f (both_none (family_refusal f) (first_refusal fs) none).0).0
 
-module _ (p : Present) (m : ℕ) (name : List ℕ) (asked : List AskedFamily) (o : Option TableInfo) (absent : o ≡ None) where
-  -- a refusal of what is asked for
-  pub refuses_table : (why : Refusal) → create_refusal p asked ≡ Some why → IsSaid (Refused why) (create_reply p m name asked o)
-  refuses_table why is =
-      let made : create_reply p m name asked o ≡ refused why =
-      ap (create_reply p m name asked) absent
-      ∙ ap (λ (w : Option Refusal). unless_refused w (changes (CreateTable (new_table (p.last + 1) name (families_of asked))) m (Create name (families_of asked)))) is in
-      record { lines = sym (ap reply_lines made); records = ap (λ (r : Reply). r.records) made }
+lawful_rules : (fs : List AskedFamily) → first_refusal fs ≡ no_refusal → list_all (λ f. is_lawful_or_none f.rule) (families_of fs) ≡ true
+lawful_rules [] none = refl
+lawful_rules (f ∷ fs) none =
+    let both = both_none (family_refusal f) (first_refusal fs) none in
+    and_from (is_lawful_or_none f.rule) (list_all (λ f. is_lawful_or_none f.rule) (families_of fs)) (faultless f both.0).1 (lawful_rules fs both.1)
 
-  bad_name : (b : Bool) (rest : Option Refusal) → b ≡ false → cond (not b) (Some BadFamilyName) rest ≡ Some BadFamilyName
-  bad_name b rest e = ap (λ (c : Bool). cond (not c) (Some BadFamilyName) rest) e
+or_true : (a b : Bool) → b ≡ true → (a || b) ≡ true
+or_true true b is = refl
+or_true false b is = is
 
-  pub refuses_name : all_lawful asked ≡ false → IsSaid (Refused BadFamilyName) (create_reply p m name asked o)
-  refuses_name e = refuses_table BadFamilyName (bad_name (all_lawful asked) _ e)
+passes : (b : Bool) (why : Refusal) → cond b None (Some why) ≡ no_refusal → b ≡ true
+passes true why none = refl
+passes false why none = absurd cc
 
-  module _ (lawful : all_lawful asked ≡ true) where
-    past_names : create_refusal p asked ≡ cond (nat_lt most_families (length asked)) (Some TooManyFamilies) (cond (nat_le most_tables (length p.schema)) (Some TooManyTables) None)
-    past_names = ap (λ (c : Bool). cond (not c) (Some BadFamilyName) (cond (nat_lt most_families (length asked)) (Some TooManyFamilies) (cond (nat_le most_tables (length p.schema)) (Some TooManyTables) None))) lawful
+-- a retention that is not refused can be used
+lawful_used : (retention : Option ℤ) → retention_refusal retention ≡ no_refusal → is_retention (retention_used retention) ≡ true
+lawful_used None none = refl
+lawful_used (Some (pos n)) none = or_true (n == 0) (is_lawful_retention n) (passes (is_lawful_retention n) _ none)
+lawful_used (Some (negsuc n)) none = absurd cc
 
-    module _ (fs : List Family) (is : fs ≡ families_of asked) where
-      as_many : length fs ≡ length asked
-      as_many = ap (λ (l : List Family). length l) is ∙ length-map asked _
-
-      pub refuses_many : most_families < length fs → IsSaid (Refused TooManyFamilies) (create_reply p m name asked o)
-      refuses_many many =
-          let large : nat_lt most_families (length asked) ≡ true = lt-ltb most_families (length asked) (omega (arith, many, as_many)) in
-          refuses_table TooManyFamilies (past_names ∙ ap (λ (c : Bool). cond c (Some TooManyFamilies) (cond (nat_le most_tables (length p.schema)) (Some TooManyTables) None)) large)
-
-      module _ (few : length fs ≤ most_families) where
-        past_count : create_refusal p asked ≡ cond (nat_le most_tables (length p.schema)) (Some TooManyTables) None
-        past_count =
-            let small : nat_lt most_families (length asked) ≡ false = le-ltb most_families (length asked) (omega (arith, few, as_many)) in
-            past_names ∙ ap (λ (c : Bool). cond c (Some TooManyFamilies) (cond (nat_le most_tables (length p.schema)) (Some TooManyTables) None)) small
-
-        module _ (none : table_of name p.schema ≡ None) where
-          room : (b : Bool) → nat_lt (length p.schema) most_tables ≡ b → is_allowed (Create name fs) p.schema ≡ b
-          room b e = ap (λ (t : Option TableInfo). is_none t && nat_lt (length p.schema) most_tables) none ∙ e
-
-          pub refuses_full : is_allowed (Create name fs) p.schema ≡ false → IsSaid (Refused TooManyTables) (create_reply p m name asked o)
-          refuses_full full =
-              let no_room : nat_lt (length p.schema) most_tables ≡ false = sym (room (nat_lt (length p.schema) most_tables) refl) ∙ full in
-              let large : nat_le most_tables (length p.schema) ≡ true = le-leb most_tables (length p.schema) (ltb-false (length p.schema) most_tables no_room) in
-              refuses_table TooManyTables (past_count ∙ ap (λ (c : Bool). cond c (Some TooManyTables) None) large)
-
-          pub creates : (lines : List ℕ) → is_allowed (Create name fs) p.schema ≡ true → lines ≡ line_of (response_data (shown (CreateTable (new_table (p.last + 1) name fs)))) ++ ok_line → is_table_name name ≡ true → Ascend asked → p.floor ≤ m → m ≤ last_moment
-              → IsChange (Create name fs) (Lines lines) p m (create_reply p m name asked o)
-          creates lines allowed text named sorted not_before not_past =
-              let some_room : nat_lt (length p.schema) most_tables ≡ true = sym (room (nat_lt (length p.schema) most_tables) refl) ∙ allowed in
-              let small : nat_le most_tables (length p.schema) ≡ false = lt-leb most_tables (length p.schema) (ltb-true (length p.schema) most_tables some_room) in
-              let why : create_refusal p asked ≡ None = past_count ∙ ap (λ (c : Bool). cond c (Some TooManyTables) None) small in
-              let made : create_reply p m name asked o ≡ changes (CreateTable (new_table (p.last + 1) name (families_of asked))) m (Create name (families_of asked)) =
-              ap (create_reply p m name asked) absent
-              ∙ ap (λ (w : Option Refusal). unless_refused w (changes (CreateTable (new_table (p.last + 1) name (families_of asked))) m (Create name (families_of asked)))) why in
-              let whole : create_reply p m name asked o ≡ changes (CreateTable (new_table (p.last + 1) name fs)) m (Create name fs) =
-              made ∙ ap (λ (l : List Family). changes (CreateTable (new_table (p.last + 1) name l)) m (Create name l)) (sym is) in
-              record {
-                lines = text ∙ sym (ap reply_lines whole ∙ append_assoc (line_of (response_data (shown (CreateTable (new_table (p.last + 1) name fs))))) [] ok_line);
-                records = ap (λ (r : Reply). r.records) whole;
-                lawful = record {
-                  spellable = (named, few, subst (λ (l : List Family). AllFrom name_of (λ b f. IsTrue (is_family_behind b f.name)) [] l) (sym is) (ascend [] asked lawful sorted (all_above asked lawful)));
-                  not_past = not_past;
-                  not_before = not_before;
-                  allowed = allowed;
-                };
-              }
+-- a table that is not refused may be made
+pub may_create : (p : Present) (m : ℕ) (name : List ℕ) (asked : List AskedFamily) (retention : Option ℤ) → create_refusal p asked retention ≡ None → table_of name p.schema ≡ None → Ascend asked → is_table_name name ≡ true → p.floor ≤ m → m ≤ last_moment
+    → IsLawful p (event m (Create name (families_of asked) (retention_used retention)))
+may_create p m name asked retention none absent sorted named not_before not_past =
+    let families = both_none (first_refusal asked) _ none in
+    let number = both_none (refused_if (nat_lt most_families (length asked)) _) _ families.1 in
+    let kept = both_none (retention_refusal retention) (refused_if (nat_le most_tables (length p.schema)) _) number.1 in
+    let as_many : length (families_of asked) ≡ length asked = length-map asked _ in
+    let few : nat_lt most_families (length (families_of asked)) ≡ false = rw as_many (not_refused (nat_lt most_families (length asked)) _ number.0) in
+    let room : nat_le most_tables (length p.schema) ≡ false = not_refused (nat_le most_tables (length p.schema)) _ kept.1 in
+    record {
+      spellable = (named, (ltb-false most_families (length (families_of asked)) few, ascend [] asked families.0 sorted (all_above asked families.0)), lawful_used retention kept.0);
+      not_past = not_past;
+      not_before = not_before;
+      allowed = rw (absent, lawful_rules asked families.0, few, room) refl;
+    }

@@ -1,2 +1,10 @@
-pub mod Mutates
 pub mod Creates
+pub mod Cutting
+pub mod Dropping
+pub mod InTurn
+pub mod Judging
+pub mod Mutates
+pub mod Prefixes
+pub mod Ranges
+pub mod Refusing
+pub mod Updates

@@ -3,3 +3,9 @@ pub mod Tables
 pub mod Rows
 pub mod Lines
 pub mod Plans
+pub mod NoPlans
+pub mod MutateRows
+pub mod Drops
+pub mod Modifications
+pub mod Records
+pub mod Prefixes

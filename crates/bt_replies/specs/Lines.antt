@@ -12,16 +12,26 @@ use Rattle.bt_requests.specs.declared.method.Method.{Method}
 use Rattle.bt_requests.specs.declared.refusal.RequestRefusal.{RequestRefusal}
 use Rattle.bt_requests.specs.declared.refusal.RequestRefusal.TheVariants as request
 use Rattle.bt_requests.specs.declared.request.Request.{Request}
-use Rattle.bt_requests.specs.declared.request.Request.TheVariants.{CreateTable, MutateRow, ReadRows}
-use Rattle.bt_state.specs.State.{Present, table_of}
+use Rattle.bt_requests.specs.declared.request.Request.TheVariants.{CreateTable, GetTable, ListTables, DeleteTable, UpdateTable, ModifyColumnFamilies, DropRowRange, MutateRow, MutateRows, ReadRows}
+use Rattle.bt_schema.specs.Schema.{table_of}
+use Rattle.bt_state.specs.State.{Present}
+use Rattle.bt_replies.specs.Drops.{drop_reply}
+use Rattle.bt_replies.specs.MutateRows.{mutate_rows_reply}
 use Rattle.bt_replies.specs.Replies.{Reply, refused, refused_by}
 use Rattle.bt_replies.specs.Rows.{mutate_reply, read_reply}
-use Rattle.bt_replies.specs.Tables.{create_reply}
+use Rattle.bt_replies.specs.Tables.{create_reply, delete_reply, get_reply, list_reply, update_reply}
 
 -- the reply to a request
 abbrev pub request_reply : Present → ℕ → Request → Reply
-request_reply p m (CreateTable name families) = create_reply p m name families (table_of name p.schema)
+request_reply p m (CreateTable name families retention) = create_reply p m name families retention (table_of name p.schema)
+request_reply p m (GetTable name) = get_reply (table_of name p.schema)
+request_reply p m (ListTables parent page_token) = list_reply p parent page_token
+request_reply p m (DeleteTable name) = delete_reply m (table_of name p.schema)
+request_reply p m (UpdateTable name mask retention) = update_reply p m mask retention (table_of name p.schema)
+request_reply p m (ModifyColumnFamilies name changes) = refused refusal.NotBuilt
+request_reply p m (DropRowRange name target) = drop_reply p m target (table_of name p.schema)
 request_reply p m (MutateRow name key ms) = mutate_reply m key ms (table_of name p.schema)
+request_reply p m (MutateRows name entries) = mutate_rows_reply m entries (table_of name p.schema)
 request_reply p m (ReadRows name) = read_reply p (table_of name p.schema)
 
 -- the status line of a request that is refused for what it holds

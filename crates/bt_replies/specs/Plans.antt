@@ -1,12 +1,13 @@
 -- A reply before it is given, as the code holds it.
-use Rattle.std.specs.Prelude.{◌≡◌, ℕ, List, [], ◌∷◌, ◌++◌}
-use Rattle.bt_entry.specs.declared.entry.Entry.{Entry}
+use Rattle.std.specs.Prelude.{◌≡◌, ◌≤◌, ◌+◌, ℕ, List, [], ◌∷◌, ◌++◌, length, map}
+use Rattle.bt_entry.specs.declared.numbered.Numbered.{Numbered}
+use Rattle.bt_entry.specs.Grammar.{AreNumbered}
 use Rattle.bt_messages.specs.Lines.{line_of, ok_line, response_data}
 use Rattle.bt_messages.specs.Refusals.{refusal_line}
 use Rattle.bt_messages.specs.Responses.{shown}
 use Rattle.bt_messages.specs.declared.response.Response.TheVariants.{MutateRow}
-use Rattle.bt_state.specs.State.{IsLawful, Present}
-use Rattle.bt_replies.specs.Replies.{Reply, event, reply_lines}
+use Rattle.bt_state.specs.State.{AreLawful, Present, events_of, presents_after}
+use Rattle.bt_replies.specs.Replies.{Reply, reply_lines}
 use Rattle.bt_replies.specs.declared.answer.Answer.{Answer}
 use Rattle.bt_replies.specs.declared.answer.Answer.TheVariants.{Refused, Empty, Lines}
 use Rattle.bt_replies.specs.declared.plan.Plan.{Plan}
@@ -23,13 +24,19 @@ pub record IsSaid (answer : Answer) (r : Reply) : Type 0 where
   pub lines : answer_bytes answer ≡ reply_lines r
   pub records : r.records ≡ []
 
--- it says this once the entry is there, which may come next
-pub record IsChange (entry : Entry) (answer : Answer) (p : Present) (m : ℕ) (r : Reply) : Type 0 where
-  pub lines : answer_bytes answer ≡ reply_lines r
-  pub records : r.records ≡ (event m entry ∷ []) ∷ []
-  pub lawful : IsLawful p (event m entry)
+-- Records whose entries may come next, each in turn: none is empty, its entries can be counted, and they are numbered on.
+abbrev pub AreRecords : Present → List (List Numbered) → Type 0
+AreRecords p [] = Unit {0}
+AreRecords p (r ∷ rs) =
+    (1 ≤ length r) × AreNumbered (p.last + 1) r × AreLawful p (events_of r) × AreRecords (presents_after p (events_of r)) rs
 
--- it is a plan of this reply, over that present at that moment
-abbrev pub IsPlan : Plan → Present → ℕ → Reply → Type 0
-IsPlan (Says answer) p m r = IsSaid answer r
-IsPlan (Changes entry answer) p m r = IsChange entry answer p m r
+-- it says this once the records are there, each of which may come in turn
+pub record IsChange (records : List (List Numbered)) (answer : Answer) (p : Present) (r : Reply) : Type 0 where
+  pub lines : answer_bytes answer ≡ reply_lines r
+  pub events : r.records ≡ map events_of records
+  pub lawful : AreRecords p records
+
+-- it is a plan of this reply, over that present
+abbrev pub IsPlan : Plan → Present → Reply → Type 0
+IsPlan (Says answer) p r = IsSaid answer r
+IsPlan (Changes records answer) p r = IsChange records answer p r

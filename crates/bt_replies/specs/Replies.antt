@@ -37,6 +37,10 @@ unless_refused (Some why) r = refused why
 abbrev pub event : ℕ → Entry → Event
 event m e = record { moment = m; entry = e }
 
+-- one response, and no change
+abbrev pub answers : Response → Reply
+answers response = record { responses = line_of (response_data (shown response)) ∷ []; status = ok_line; records = [] }
+
 -- one response, and one record of one entry at this moment
 abbrev pub changes : Response → ℕ → Entry → Reply
 changes response m e = record {

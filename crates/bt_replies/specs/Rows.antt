@@ -1,5 +1,5 @@
 -- What requests on rows are answered.
-use Rattle.std.specs.Prelude.{ℕ, List, [], ◌∷◌, Option, Some, None, option_map, if◌then◌else◌}
+use Rattle.std.specs.Prelude.{ℕ, false, List, [], ◌∷◌, Option, Some, None, option_map, if◌then◌else◌}
 use Rattle.serde_json.specs.Data.{Data}
 use Rattle.bt_types.specs.Grammar.{is_row_key}
 use Rattle.bt_entry.specs.declared.entry.Entry.TheVariants.{Row}
@@ -14,7 +14,7 @@ use Rattle.bt_mutation.specs.Resolution.{resolved}
 use Rattle.bt_mutation.specs.declared.asked.AskedMutation.{AskedMutation}
 use Rattle.bt_mutation.specs.declared.refusal.MutationRefusal.{MutationRefusal}
 use Rattle.bt_mutation.specs.declared.refusal.MutationRefusal.TheVariants as mutation
-use Rattle.bt_state.specs.Contents.{Contents}
+use Rattle.bt_contents.specs.Contents.{Contents}
 use Rattle.bt_state.specs.State.{Present, rows_of}
 use Rattle.bt_replies.specs.Replies.{Reply, changes, refused, unless_refused}
 
@@ -31,6 +31,7 @@ refusal_for (mutation.UnknownFamily index) = refusal.FamilyNotFound
 refusal_for (mutation.LongQualifier index) = refusal.QualifierTooLong
 refusal_for (mutation.BadTimestamp index) = refusal.BadTimestamp
 refusal_for (mutation.TooLarge index) = refusal.ValueTooLarge
+refusal_for (mutation.BadTimeRange index) = refusal.BadTimeRange
 
 -- what is wrong with a row key and with mutations of its row
 abbrev pub mutate_refusal : List ℕ → List AskedMutation → TableInfo → Option Refusal
@@ -41,7 +42,7 @@ mutate_refusal key ms t =
 -- MutateRow (google.bigtable.v2): the mutations of the row, in order, all or none
 abbrev pub mutate_reply : ℕ → List ℕ → List AskedMutation → Option TableInfo → Reply
 mutate_reply m key ms None = refused refusal.TableNotFound
-mutate_reply m key ms (Some t) = unless_refused (mutate_refusal key ms t) (changes MutateRow m (Row t.incarnation key (resolved m ms)))
+mutate_reply m key ms (Some t) = unless_refused (mutate_refusal key ms t) (changes MutateRow m (Row t.incarnation key false (resolved m ms)))
 
 -- one response with all chunks, or none where there is no chunk
 abbrev pub read_responses : List Data → List (List ℕ)

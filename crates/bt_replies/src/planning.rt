@@ -1,5 +1,5 @@
 //! From a line to its plan.
-ghost use Rattle.std.specs.Prelude.{◌≡◌, ◌≤◌, ℕ, IfOk};
+ghost use Rattle.std.specs.Prelude.{◌≡◌, ◌≤◌, IfOk};
 ghost use Rattle.serde_json.specs.View.{view};
 ghost use Rattle.bt_entry.specs.Grammar.{last_moment};
 ghost use Rattle.bt_replies.specs.Lines.{asked_reply, envelope_refusal, reply_to, request_refusal_line, request_reply};
@@ -11,9 +11,15 @@ ghost use Rattle.bt_state.specs.State.{Present};
 
 use crate::answer::Answer;
 use crate::create_table::create_table;
+use crate::delete_table::delete_table;
+use crate::drop_row_range::drop_row_range;
+use crate::get_table::get_table;
+use crate::list_tables::list_tables;
 use crate::mutate_row::mutate_row;
+use crate::mutate_rows::mutate_rows;
 use crate::plan::Plan;
 use crate::read_rows::read_rows;
+use crate::update_table::update_table;
 use bt_base::OutOfMemory;
 use bt_messages::{Refusal, bad_field_line, unsupported_line};
 use bt_requests::{LineRefusal, Method, Request, RequestRefusal, read_envelope, read_request};
@@ -22,8 +28,8 @@ use serde_json::Value;
 use std::alloc::Global;
 
 /// What a line is answered at a moment, in microseconds since 1970, over the tables as they are, and
-/// the entry of its change, which may come next. A change that is too large for the log is not yet
-/// refused.
+/// the records of its change, whose entries may come next. A change that is too large for the log, or
+/// for which no sequence is left, is not yet refused.
 pub fn planned(
     alloc: Global,
     present: &Present,
@@ -32,7 +38,7 @@ pub fn planned(
 ) -> Result<Plan, OutOfMemory>
     requires not_before { present.now.floor ≤ moment }
     requires not_past { moment ≤ last_moment }
-    ensures { IfOk result (λ plan. IsPlan plan present.now moment (reply_to present.now moment line.now)) }
+    ensures { IfOk result (λ plan. IsPlan plan present.now (reply_to present.now moment line.now)) }
 {
     match read_envelope(alloc, line) {
         Ok((method, value)) => asked_plan(alloc, present, method, &value, moment),
@@ -61,7 +67,7 @@ fn asked_plan(
 ) -> Result<Plan, OutOfMemory>
     requires not_before { present.now.floor ≤ moment }
     requires not_past { moment ≤ last_moment }
-    ensures { IfOk result (λ plan. IsPlan plan present.now moment (asked_reply present.now moment (request_in method (view value.now)))) }
+    ensures { IfOk result (λ plan. IsPlan plan present.now (asked_reply present.now moment (request_in method (view value.now)))) }
 {
     match read_request(alloc, method, value) {
         Ok(request) => request_plan(alloc, present, request, moment),
@@ -71,7 +77,7 @@ fn asked_plan(
 }
 
 fn refusal_plan(alloc: Global, refusal: RequestRefusal) -> Result<Plan, OutOfMemory>
-    ensures { IfOk result (λ plan. (p : Present) (m : ℕ) → IsPlan plan p m (refused_by (request_refusal_line refusal))) }
+    ensures { IfOk result (λ plan. (p : Present) → IsPlan plan p (refused_by (request_refusal_line refusal))) }
 {
     match refusal {
         RequestRefusal::NotBuilt => Ok(Plan::refuses(Refusal::NotBuilt)),
@@ -98,17 +104,36 @@ fn request_plan(
     requires order { HasOrder request }
     requires not_before { present.now.floor ≤ moment }
     requires not_past { moment ≤ last_moment }
-    ensures { IfOk result (λ plan. IsPlan plan present.now moment (request_reply present.now moment request)) }
+    ensures { IfOk result (λ plan. IsPlan plan present.now (request_reply present.now moment request)) }
 {
     match request {
-        Request::CreateTable { name, families } => {
-            create_table(alloc, present, name, families, moment)
+        Request::CreateTable {
+            name,
+            families,
+            retention,
+        } => create_table(alloc, present, name, families, retention, moment),
+        Request::GetTable { name } => get_table(alloc, present, &name),
+        Request::ListTables { parent, page_token } => {
+            list_tables(alloc, present, &parent, &page_token)
+        }
+        Request::DeleteTable { name } => delete_table(alloc, present, &name, moment),
+        Request::UpdateTable {
+            name,
+            mask,
+            retention,
+        } => update_table(alloc, present, &name, &mask, retention, moment),
+        Request::ModifyColumnFamilies { .. } => Ok(Plan::refuses(Refusal::NotBuilt)),
+        Request::DropRowRange { name, target } => {
+            drop_row_range(alloc, present, &name, target, moment)
         }
         Request::MutateRow {
             name,
             key,
             mutations,
         } => mutate_row(alloc, present, &name, &key, mutations, moment),
+        Request::MutateRows { name, entries } => {
+            mutate_rows(alloc, present, &name, entries, moment)
+        }
         Request::ReadRows { name } => read_rows(alloc, present, &name),
     }
 }

@@ -1,2 +1,4 @@
 pub mod Looks
 pub mod FamilyOrder
+pub mod Levels
+pub mod Parents

@@ -1,7 +1,7 @@
 -- What a request asks for, or why it is refused.
 use Rattle.std.specs.Prelude.{ℕ, Option, Some, None, Result, Ok, Err}
 use Rattle.serde_json.specs.Data.{Data}
-use Rattle.bt_requests.specs.Readers.{create_table, read_rows, mutate_row}
+use Rattle.bt_requests.specs.Readers.{create_table, get_table, list_tables, delete_table, update_table, modify_column_families, drop_row_range, read_rows, mutate_row, mutate_rows}
 use Rattle.bt_requests.specs.Refusals.{members_refusal}
 use Rattle.bt_requests.specs.declared.kinds.TheConstants as kinds
 use Rattle.bt_requests.specs.declared.method.Method.{Method}
@@ -13,6 +13,12 @@ use Rattle.bt_requests.specs.declared.request.Request.{Request}
 -- the message of a method that is built
 abbrev pub message_of : Method → Option ℕ
 message_of method.CreateTable = Some kinds.CREATE_TABLE
+message_of method.GetTable = Some kinds.GET_TABLE
+message_of method.ListTables = Some kinds.LIST_TABLES
+message_of method.DeleteTable = Some kinds.DELETE_TABLE
+message_of method.UpdateTable = Some kinds.UPDATE_TABLE
+message_of method.DropRowRange = Some kinds.DROP_ROW_RANGE
+message_of method.MutateRows = Some kinds.MUTATE_ROWS
 message_of method.ReadRows = Some kinds.READ_ROWS
 message_of method.MutateRow = Some kinds.MUTATE_ROW
 message_of _ = None
@@ -20,8 +26,15 @@ message_of _ = None
 -- what its request asks for; none where a name in it is not lawful
 abbrev pub asked_of : Method → Data → Option Request
 asked_of method.CreateTable d = create_table d
+asked_of method.GetTable d = get_table d
+asked_of method.ListTables d = list_tables d
+asked_of method.DeleteTable d = delete_table d
+asked_of method.UpdateTable d = update_table d
+asked_of method.ModifyColumnFamilies d = modify_column_families d
+asked_of method.DropRowRange d = drop_row_range d
 asked_of method.ReadRows d = read_rows d
 asked_of method.MutateRow d = mutate_row d
+asked_of method.MutateRows d = mutate_rows d
 asked_of _ d = None
 
 -- the refusal, or else what follows

@@ -1,7 +1,7 @@
 -- The members of each message, in byte order of their JSON names, and the names of each enum.
 use Rattle.std.specs.Prelude.{ℕ, ◌==◌, List, [], ◌∷◌, codes, if◌then◌else◌}
 use Rattle.bt_walk.specs.Shapes.{Table, Field, one, list, mapped, choice_of, enum_of, unsupported}
-use Rattle.bt_walk.specs.declared.shape.Shape.TheVariants.{Bytes, Enum, Int64, Of, Text}
+use Rattle.bt_walk.specs.declared.shape.Shape.TheVariants.{AnyEnum, Bool, Bytes, Duration, Enum, Int32, Int64, Of, Text}
 use Rattle.bt_walk.specs.declared.shape.Support.TheVariants.{UnlessZero}
 use Rattle.bt_requests.specs.declared.kinds.TheConstants as kinds
 
@@ -22,7 +22,7 @@ create_table_members =
 abbrev pub table_members : List Field
 table_members =
     denied (codes "automatedBackupPolicy")
-    ∷ denied (codes "changeStreamConfig")
+    ∷ one (codes "changeStreamConfig") (Of kinds.CHANGE_STREAM_CONFIG)
     ∷ denied (codes "clusterStates")
     ∷ mapped (codes "columnFamilies") (Of kinds.COLUMN_FAMILY)
     ∷ denied (codes "deletionProtection")
@@ -35,7 +35,7 @@ table_members =
 -- google.bigtable.admin.v2.ColumnFamily
 abbrev pub column_family_members : List Field
 column_family_members =
-    denied (codes "gcRule")
+    one (codes "gcRule") (Of kinds.GC_RULE)
     ∷ denied (codes "stats")
     ∷ denied (codes "valueType")
     ∷ []
@@ -75,9 +75,9 @@ mutate_row_members =
 abbrev pub mutation_members : List Field
 mutation_members =
     unsupported UnlessZero 1 (codes "addToCell")
-    ∷ unsupported UnlessZero 1 (codes "deleteFromColumn")
-    ∷ unsupported UnlessZero 1 (codes "deleteFromFamily")
-    ∷ unsupported UnlessZero 1 (codes "deleteFromRow")
+    ∷ choice_of 1 (codes "deleteFromColumn") (Of kinds.DELETE_FROM_COLUMN)
+    ∷ choice_of 1 (codes "deleteFromFamily") (Of kinds.DELETE_FROM_FAMILY)
+    ∷ choice_of 1 (codes "deleteFromRow") (Of kinds.DELETE_FROM_ROW)
     ∷ unsupported UnlessZero 1 (codes "mergeToCell")
     ∷ choice_of 1 (codes "setCell") (Of kinds.SET_CELL)
     ∷ []
@@ -91,6 +91,125 @@ set_cell_members =
     ∷ one (codes "value") Bytes
     ∷ []
 
+-- google.bigtable.admin.v2.GcRule: one oneof
+abbrev pub gc_rule_members : List Field
+gc_rule_members =
+    choice_of 1 (codes "intersection") (Of kinds.RULES)
+    ∷ choice_of 1 (codes "maxAge") Duration
+    ∷ choice_of 1 (codes "maxNumVersions") Int32
+    ∷ choice_of 1 (codes "union") (Of kinds.RULES)
+    ∷ []
+
+-- google.bigtable.admin.v2.GcRule.Intersection and google.bigtable.admin.v2.GcRule.Union
+abbrev pub rules_members : List Field
+rules_members =
+    list (codes "rules") (Of kinds.GC_RULE)
+    ∷ []
+
+-- google.bigtable.admin.v2.ChangeStreamConfig
+abbrev pub change_stream_config_members : List Field
+change_stream_config_members =
+    one (codes "retentionPeriod") Duration
+    ∷ []
+
+-- google.bigtable.admin.v2.GetTableRequest
+abbrev pub get_table_members : List Field
+get_table_members =
+    one (codes "name") Text
+    ∷ one (codes "view") AnyEnum
+    ∷ []
+
+-- google.bigtable.admin.v2.ListTablesRequest
+abbrev pub list_tables_members : List Field
+list_tables_members =
+    one (codes "pageSize") Int32
+    ∷ one (codes "pageToken") Text
+    ∷ one (codes "parent") Text
+    ∷ one (codes "view") AnyEnum
+    ∷ []
+
+-- google.bigtable.admin.v2.DeleteTableRequest
+abbrev pub delete_table_members : List Field
+delete_table_members =
+    one (codes "name") Text
+    ∷ []
+
+-- google.bigtable.admin.v2.UpdateTableRequest
+abbrev pub update_table_members : List Field
+update_table_members =
+    one (codes "ignoreWarnings") Bool
+    ∷ one (codes "table") (Of kinds.TABLE)
+    ∷ one (codes "updateMask") Text
+    ∷ []
+
+-- google.bigtable.admin.v2.ModifyColumnFamiliesRequest
+abbrev pub modify_column_families_members : List Field
+modify_column_families_members =
+    one (codes "ignoreWarnings") Bool
+    ∷ list (codes "modifications") (Of kinds.MODIFICATION)
+    ∷ one (codes "name") Text
+    ∷ []
+
+-- google.bigtable.admin.v2.ModifyColumnFamiliesRequest.Modification: all but its id and its mask are one oneof
+abbrev pub modification_members : List Field
+modification_members =
+    choice_of 1 (codes "create") (Of kinds.COLUMN_FAMILY)
+    ∷ choice_of 1 (codes "drop") Bool
+    ∷ one (codes "id") Text
+    ∷ choice_of 1 (codes "update") (Of kinds.COLUMN_FAMILY)
+    ∷ denied (codes "updateMask")
+    ∷ []
+
+-- google.bigtable.admin.v2.DropRowRangeRequest: all but its name are one oneof
+abbrev pub drop_row_range_members : List Field
+drop_row_range_members =
+    choice_of 1 (codes "deleteAllDataFromTable") Bool
+    ∷ one (codes "name") Text
+    ∷ choice_of 1 (codes "rowKeyPrefix") Bytes
+    ∷ []
+
+-- google.bigtable.v2.MutateRowsRequest
+abbrev pub mutate_rows_members : List Field
+mutate_rows_members =
+    one (codes "appProfileId") Text
+    ∷ denied (codes "authorizedViewName")
+    ∷ list (codes "entries") (Of kinds.ENTRY)
+    ∷ one (codes "tableName") Text
+    ∷ []
+
+-- google.bigtable.v2.MutateRowsRequest.Entry
+abbrev pub entry_members : List Field
+entry_members =
+    denied (codes "idempotency")
+    ∷ list (codes "mutations") (Of kinds.MUTATION)
+    ∷ one (codes "rowKey") Bytes
+    ∷ []
+
+-- google.bigtable.v2.Mutation.DeleteFromColumn
+abbrev pub delete_from_column_members : List Field
+delete_from_column_members =
+    one (codes "columnQualifier") Bytes
+    ∷ one (codes "familyName") Text
+    ∷ one (codes "timeRange") (Of kinds.TIMESTAMP_RANGE)
+    ∷ []
+
+-- google.bigtable.v2.TimestampRange
+abbrev pub timestamp_range_members : List Field
+timestamp_range_members =
+    one (codes "endTimestampMicros") Int64
+    ∷ one (codes "startTimestampMicros") Int64
+    ∷ []
+
+-- google.bigtable.v2.Mutation.DeleteFromFamily
+abbrev pub delete_from_family_members : List Field
+delete_from_family_members =
+    one (codes "familyName") Text
+    ∷ []
+
+-- google.bigtable.v2.Mutation.DeleteFromRow has no members
+abbrev pub delete_from_row_members : List Field
+delete_from_row_members = []
+
 abbrev pub members_of : ℕ → List Field
 members_of m =
     if m == kinds.CREATE_TABLE then create_table_members
@@ -101,6 +220,22 @@ members_of m =
     else if m == kinds.MUTATE_ROW then mutate_row_members
     else if m == kinds.MUTATION then mutation_members
     else if m == kinds.SET_CELL then set_cell_members
+    else if m == kinds.GC_RULE then gc_rule_members
+    else if m == kinds.RULES then rules_members
+    else if m == kinds.CHANGE_STREAM_CONFIG then change_stream_config_members
+    else if m == kinds.GET_TABLE then get_table_members
+    else if m == kinds.LIST_TABLES then list_tables_members
+    else if m == kinds.DELETE_TABLE then delete_table_members
+    else if m == kinds.UPDATE_TABLE then update_table_members
+    else if m == kinds.MODIFY_COLUMN_FAMILIES then modify_column_families_members
+    else if m == kinds.MODIFICATION then modification_members
+    else if m == kinds.DROP_ROW_RANGE then drop_row_range_members
+    else if m == kinds.MUTATE_ROWS then mutate_rows_members
+    else if m == kinds.ENTRY then entry_members
+    else if m == kinds.DELETE_FROM_COLUMN then delete_from_column_members
+    else if m == kinds.TIMESTAMP_RANGE then timestamp_range_members
+    else if m == kinds.DELETE_FROM_FAMILY then delete_from_family_members
+    else if m == kinds.DELETE_FROM_ROW then delete_from_row_members
     else []
 
 abbrev pub names_of : ℕ → List ℕ

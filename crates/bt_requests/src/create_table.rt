@@ -1,11 +1,13 @@
 //! The request CreateTable.
 ghost use Rattle.std.specs.Prelude.{◌≡◌, IfOk};
 ghost use Rattle.serde_json.specs.View.{view, members_view};
-ghost use Rattle.bt_requests.specs.Readers.{Ascend, IsInOrder, create_table, families_in, families_of};
+ghost use Rattle.bt_requests.specs.Readers.{Ascend, IsInOrder, create_table, families_in, families_of, family, retention_in};
 
+use crate::families::{AskedFamily, AskedFamilyList};
 use crate::names;
-use crate::request::{AskedFamily, AskedFamilyList, Request};
-use crate::values::{members_at, text_at, value_at};
+use crate::request::Request;
+use crate::rules::rule_of_family;
+use crate::values::{members_at, micros_at, text_at, value_at};
 use bt_base::{Blob, OutOfMemory};
 use bt_types::TableName;
 use serde_json::{Map, Value};
@@ -21,7 +23,26 @@ pub(crate) fn create_table(alloc: Global, value: &Value) -> Result<Option<Reques
         return Ok(None);
     };
     let families = families_in(alloc, value)?;
-    Ok(Some(Request::CreateTable { name, families }))
+    let retention = retention_in(alloc, value)?;
+    Ok(Some(Request::CreateTable {
+        name,
+        families,
+        retention,
+    }))
+}
+
+/// The retention of the table's change stream, in microseconds.
+pub(crate) fn retention_in(alloc: Global, value: &Value) -> Result<Option<i64>, OutOfMemory>
+    ensures { IfOk result (λ r. r ≡ retention_in (view value.now)) }
+{
+    let Some(table) = value_at(value, names::TABLE) else {
+        return Ok(None);
+    };
+    let Some(stream) = value_at(table, names::CHANGE_STREAM_CONFIG) else {
+        return Ok(None);
+    };
+    let retention = micros_at(alloc, stream, names::RETENTION_PERIOD)?;
+    Ok(Some(retention))
 }
 
 #[tactic(auto, using(crate::proofs::FamilyOrder::none_ascend))]
@@ -47,8 +68,15 @@ fn families_of(alloc: Global, entries: &Map<String, Value>) -> Result<AskedFamil
         if value.is_null() {
             continue;
         }
-        let name = Blob::new(alloc, key.as_str().as_bytes())?;
-        families.push(AskedFamily { name })?;
+        families.push(family(alloc, key.as_str(), value)?)?;
     }
     Ok(families)
+}
+
+fn family(alloc: Global, name: &str, value: &Value) -> Result<AskedFamily, OutOfMemory>
+    ensures { IfOk result (λ f. f ≡ family name.now (view value.now)) }
+{
+    let name = Blob::new(alloc, name.as_bytes())?;
+    let rule = rule_of_family(alloc, value)?;
+    Ok(AskedFamily { name, rule })
 }

@@ -6,12 +6,16 @@ ghost use Rattle.bt_requests.specs.Refusals.{Answers};
 ghost use Rattle.bt_requests.specs.Requests.{request_in, message_of, asked_of};
 
 use crate::create_table::create_table;
+use crate::drop_row_range::drop_row_range;
 use crate::kinds;
+use crate::list_tables::list_tables;
 use crate::method::Method;
-use crate::mutations::mutate_row;
+use crate::modifications::modify_column_families;
+use crate::mutations::{mutate_row, mutate_rows};
+use crate::named_table::{delete_table, get_table, update_table};
+use crate::read_rows::read_rows;
 use crate::refusal::{RequestRefusal, members_refusal};
 use crate::request::Request;
-use crate::rows::read_rows;
 use bt_base::OutOfMemory;
 use serde_json::Value;
 use std::alloc::Global;
@@ -40,21 +44,34 @@ fn message_of(method: Method) -> Option<u8>
 {
     match method {
         Method::CreateTable => Some(kinds::CREATE_TABLE),
+        Method::GetTable => Some(kinds::GET_TABLE),
+        Method::ListTables => Some(kinds::LIST_TABLES),
+        Method::DeleteTable => Some(kinds::DELETE_TABLE),
+        Method::UpdateTable => Some(kinds::UPDATE_TABLE),
+        Method::DropRowRange => Some(kinds::DROP_ROW_RANGE),
+        Method::MutateRows => Some(kinds::MUTATE_ROWS),
         Method::ReadRows => Some(kinds::READ_ROWS),
         Method::MutateRow => Some(kinds::MUTATE_ROW),
         _ => None,
     }
 }
 
-// The request of a method that is built, or `None` where a name in it is not lawful.
+// The request of a method, or `None` where a name in it is not lawful.
 fn asked_of(alloc: Global, method: Method, value: &Value) -> Result<Option<Request>, OutOfMemory>
     ensures exact { IfOk result (λ r. r ≡ asked_of method (view value.now)) }
     ensures order { IfOk result IsInOrder }
 {
     match method {
         Method::CreateTable => create_table(alloc, value),
+        Method::GetTable => get_table(alloc, value),
+        Method::ListTables => list_tables(alloc, value),
+        Method::DeleteTable => delete_table(alloc, value),
+        Method::UpdateTable => update_table(alloc, value),
+        Method::ModifyColumnFamilies => modify_column_families(alloc, value),
+        Method::DropRowRange => drop_row_range(alloc, value),
         Method::ReadRows => read_rows(alloc, value),
         Method::MutateRow => mutate_row(alloc, value),
+        Method::MutateRows => mutate_rows(alloc, value),
         _ => Ok(None),
     }
 }

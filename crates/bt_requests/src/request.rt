@@ -1,34 +1,58 @@
 //! What a line asks for.
-use bt_base::{Blob, ListOf, OutOfMemory, Plain};
+use crate::families::{AskedFamilyList, ModificationList};
+use crate::rows::AskedEntryList;
+use bt_base::Blob;
 use bt_mutation::AskedMutationList;
-use bt_types::TableName;
-use std::alloc::Global;
+use bt_types::{TableName, Text};
 
-/// A family as it was read (`google.bigtable.admin.v2.ColumnFamily`, and its key in the map).
+/// The rows that DropRowRange is to remove.
 #[derive(Debug, Drop)]
-pub struct AskedFamily {
-    pub name: Blob,
+pub enum DropTarget {
+    /// Those whose keys begin with these bytes.
+    Prefix(Blob),
+    /// All rows of the table, or none where it is false.
+    All(bool),
 }
-
-impl Plain for AskedFamily {
-    fn copy(&self, alloc: Global) -> Result<AskedFamily, OutOfMemory> {
-        Ok(AskedFamily {
-            name: self.name.copy(alloc)?,
-        })
-    }
-}
-
-/// Families in byte order of their names.
-pub type AskedFamilyList = ListOf<AskedFamily>;
 
 /// A request whose names of tables are lawful. The rest is as it was read; what the request leaves
-/// out is zero or empty.
+/// out is zero or empty. A retention is in microseconds; it is `None` where there is no
+/// `changeStreamConfig`, and 0 where that has no `retentionPeriod`.
 #[derive(Debug, Drop)]
 pub enum Request {
     /// `google.bigtable.admin.v2.CreateTableRequest`.
     CreateTable {
         name: TableName,
         families: AskedFamilyList,
+        retention: Option<i64>,
+    },
+    /// `google.bigtable.admin.v2.GetTableRequest`.
+    GetTable {
+        name: TableName,
+    },
+    /// `google.bigtable.admin.v2.ListTablesRequest`. The parent is `projects/P/instances/I`.
+    ListTables {
+        parent: Text,
+        page_token: Text,
+    },
+    /// `google.bigtable.admin.v2.DeleteTableRequest`.
+    DeleteTable {
+        name: TableName,
+    },
+    /// `google.bigtable.admin.v2.UpdateTableRequest`.
+    UpdateTable {
+        name: TableName,
+        mask: Text,
+        retention: Option<i64>,
+    },
+    /// `google.bigtable.admin.v2.ModifyColumnFamiliesRequest`.
+    ModifyColumnFamilies {
+        name: TableName,
+        changes: ModificationList,
+    },
+    /// `google.bigtable.admin.v2.DropRowRangeRequest`.
+    DropRowRange {
+        name: TableName,
+        target: Option<DropTarget>,
     },
     /// `google.bigtable.v2.ReadRowsRequest`.
     ReadRows {
@@ -39,5 +63,10 @@ pub enum Request {
         name: TableName,
         key: Blob,
         mutations: AskedMutationList,
+    },
+    /// `google.bigtable.v2.MutateRowsRequest`.
+    MutateRows {
+        name: TableName,
+        entries: AskedEntryList,
     },
 }

@@ -1,22 +1,13 @@
-//! The request ReadRows.
-ghost use Rattle.std.specs.Prelude.{◌≡◌, IfOk};
-ghost use Rattle.serde_json.specs.View.{view};
-ghost use Rattle.bt_requests.specs.Readers.{IsInOrder, read_rows};
+//! Rows to be mutated, as they were read.
+use bt_base::{Blob, ListOf};
+use bt_mutation::AskedMutationList;
 
-use crate::names;
-use crate::request::Request;
-use crate::values::text_at;
-use bt_base::OutOfMemory;
-use bt_types::TableName;
-use serde_json::Value;
-use std::alloc::Global;
-
-pub(crate) fn read_rows(alloc: Global, value: &Value) -> Result<Option<Request>, OutOfMemory>
-    ensures exact { IfOk result (λ r. r ≡ read_rows (view value.now)) }
-    ensures order { IfOk result IsInOrder }
-{
-    let Some(name) = TableName::new(alloc, text_at(value, names::TABLE_NAME))? else {
-        return Ok(None);
-    };
-    Ok(Some(Request::ReadRows { name }))
+/// The mutations of one row (`google.bigtable.v2.MutateRowsRequest.Entry`).
+#[derive(Debug, Drop)]
+pub struct AskedEntry {
+    pub key: Blob,
+    pub mutations: AskedMutationList,
 }
+
+/// Entries, in order.
+pub type AskedEntryList = ListOf<AskedEntry>;

@@ -21,6 +21,22 @@ impl Schema for Requests {
             kinds::MUTATE_ROW => &MUTATE_ROW,
             kinds::MUTATION => &MUTATION,
             kinds::SET_CELL => &SET_CELL,
+            kinds::GC_RULE => &GC_RULE,
+            kinds::RULES => &RULES,
+            kinds::CHANGE_STREAM_CONFIG => &CHANGE_STREAM_CONFIG,
+            kinds::GET_TABLE => &GET_TABLE,
+            kinds::LIST_TABLES => &LIST_TABLES,
+            kinds::DELETE_TABLE => &DELETE_TABLE,
+            kinds::UPDATE_TABLE => &UPDATE_TABLE,
+            kinds::MODIFY_COLUMN_FAMILIES => &MODIFY_COLUMN_FAMILIES,
+            kinds::MODIFICATION => &MODIFICATION,
+            kinds::DROP_ROW_RANGE => &DROP_ROW_RANGE,
+            kinds::MUTATE_ROWS => &MUTATE_ROWS,
+            kinds::ENTRY => &ENTRY,
+            kinds::DELETE_FROM_COLUMN => &DELETE_FROM_COLUMN,
+            kinds::TIMESTAMP_RANGE => &TIMESTAMP_RANGE,
+            kinds::DELETE_FROM_FAMILY => &DELETE_FROM_FAMILY,
+            kinds::DELETE_FROM_ROW => &[],
             _ => &[],
         }
     }
@@ -91,7 +107,7 @@ static CREATE_TABLE: [Member; 4] = [
 
 static TABLE: [Member; 9] = [
     unsupported!(0, AUTOMATED_BACKUP_POLICY),
-    unsupported!(0, CHANGE_STREAM_CONFIG),
+    one!(CHANGE_STREAM_CONFIG, Shape::Of(kinds::CHANGE_STREAM_CONFIG)),
     unsupported!(0, CLUSTER_STATES),
     map!(COLUMN_FAMILIES, Shape::Of(kinds::COLUMN_FAMILY)),
     unsupported!(0, DELETION_PROTECTION),
@@ -102,7 +118,7 @@ static TABLE: [Member; 9] = [
 ];
 
 static COLUMN_FAMILY: [Member; 3] = [
-    unsupported!(0, GC_RULE),
+    one!(GC_RULE, Shape::Of(kinds::GC_RULE)),
     unsupported!(0, STATS),
     unsupported!(0, VALUE_TYPE),
 ];
@@ -138,9 +154,9 @@ static MUTATE_ROW: [Member; 6] = [
 
 static MUTATION: [Member; 6] = [
     unsupported!(1, ADD_TO_CELL),
-    unsupported!(1, DELETE_FROM_COLUMN),
-    unsupported!(1, DELETE_FROM_FAMILY),
-    unsupported!(1, DELETE_FROM_ROW),
+    choice!(1, DELETE_FROM_COLUMN, Shape::Of(kinds::DELETE_FROM_COLUMN)),
+    choice!(1, DELETE_FROM_FAMILY, Shape::Of(kinds::DELETE_FROM_FAMILY)),
+    choice!(1, DELETE_FROM_ROW, Shape::Of(kinds::DELETE_FROM_ROW)),
     unsupported!(1, MERGE_TO_CELL),
     choice!(1, SET_CELL, Shape::Of(kinds::SET_CELL)),
 ];
@@ -151,3 +167,77 @@ static SET_CELL: [Member; 4] = [
     one!(TIMESTAMP_MICROS, Shape::Int64),
     one!(VALUE, Shape::Bytes),
 ];
+
+static GC_RULE: [Member; 4] = [
+    choice!(1, INTERSECTION, Shape::Of(kinds::RULES)),
+    choice!(1, MAX_AGE, Shape::Duration),
+    choice!(1, MAX_NUM_VERSIONS, Shape::Int32),
+    choice!(1, UNION, Shape::Of(kinds::RULES)),
+];
+
+static RULES: [Member; 1] = [list!(RULES, Shape::Of(kinds::GC_RULE))];
+
+static CHANGE_STREAM_CONFIG: [Member; 1] = [one!(RETENTION_PERIOD, Shape::Duration)];
+
+static GET_TABLE: [Member; 2] = [one!(NAME, Shape::Text), one!(VIEW, Shape::AnyEnum)];
+
+static LIST_TABLES: [Member; 4] = [
+    one!(PAGE_SIZE, Shape::Int32),
+    one!(PAGE_TOKEN, Shape::Text),
+    one!(PARENT, Shape::Text),
+    one!(VIEW, Shape::AnyEnum),
+];
+
+static DELETE_TABLE: [Member; 1] = [one!(NAME, Shape::Text)];
+
+static UPDATE_TABLE: [Member; 3] = [
+    one!(IGNORE_WARNINGS, Shape::Bool),
+    one!(TABLE, Shape::Of(kinds::TABLE)),
+    one!(UPDATE_MASK, Shape::Text),
+];
+
+static MODIFY_COLUMN_FAMILIES: [Member; 3] = [
+    one!(IGNORE_WARNINGS, Shape::Bool),
+    list!(MODIFICATIONS, Shape::Of(kinds::MODIFICATION)),
+    one!(NAME, Shape::Text),
+];
+
+static MODIFICATION: [Member; 5] = [
+    choice!(1, CREATE, Shape::Of(kinds::COLUMN_FAMILY)),
+    choice!(1, DROP, Shape::Bool),
+    one!(ID, Shape::Text),
+    choice!(1, UPDATE, Shape::Of(kinds::COLUMN_FAMILY)),
+    unsupported!(0, UPDATE_MASK),
+];
+
+static DROP_ROW_RANGE: [Member; 3] = [
+    choice!(1, DELETE_ALL_DATA_FROM_TABLE, Shape::Bool),
+    one!(NAME, Shape::Text),
+    choice!(1, ROW_KEY_PREFIX, Shape::Bytes),
+];
+
+static MUTATE_ROWS: [Member; 4] = [
+    one!(APP_PROFILE_ID, Shape::Text),
+    unsupported!(0, AUTHORIZED_VIEW_NAME),
+    list!(ENTRIES, Shape::Of(kinds::ENTRY)),
+    one!(TABLE_NAME, Shape::Text),
+];
+
+static ENTRY: [Member; 3] = [
+    unsupported!(0, IDEMPOTENCY),
+    list!(MUTATIONS, Shape::Of(kinds::MUTATION)),
+    one!(ROW_KEY, Shape::Bytes),
+];
+
+static DELETE_FROM_COLUMN: [Member; 3] = [
+    one!(COLUMN_QUALIFIER, Shape::Bytes),
+    one!(FAMILY_NAME, Shape::Text),
+    one!(TIME_RANGE, Shape::Of(kinds::TIMESTAMP_RANGE)),
+];
+
+static TIMESTAMP_RANGE: [Member; 2] = [
+    one!(END_TIMESTAMP_MICROS, Shape::Int64),
+    one!(START_TIMESTAMP_MICROS, Shape::Int64),
+];
+
+static DELETE_FROM_FAMILY: [Member; 1] = [one!(FAMILY_NAME, Shape::Text)];

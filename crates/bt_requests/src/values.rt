@@ -1,10 +1,10 @@
 //! The members of a value that has no bad field: an absent one is zero or empty.
 ghost use Rattle.std.specs.Prelude.{◌≡◌, option_map, IfOk};
 ghost use Rattle.serde_json.specs.View.{view, items_view, members_view};
-ghost use Rattle.bt_requests.specs.Values.{present, value_of, text_of, bytes_of, int64_of, items_of, items_in, members_of};
+ghost use Rattle.bt_requests.specs.Values.{present, value_of, text_of, bytes_of, bytes_or_empty, int64_of, int32_or_zero, micros_of, micros_or_zero, is_yes, items_of, items_in, members_of};
 
 use bt_base::{Blob, OutOfMemory};
-use bt_text::{FieldRefusal, read_bytes, read_int64};
+use bt_text::{FieldRefusal, read_bytes, read_duration, read_int32, read_int64};
 use bt_walk::Name;
 use serde_json::{Map, Value};
 use std::alloc::Global;
@@ -49,10 +49,16 @@ pub(crate) fn text_bytes_at(alloc: Global, value: &Value, name: Name) -> Result<
 pub(crate) fn bytes_at(alloc: Global, value: &Value, name: Name) -> Result<Blob, OutOfMemory>
     ensures { IfOk result (λ b. b ≡ bytes_of name.0.now name.1.now (view value.now)) }
 {
-    let Some(found) = value_at(value, name) else {
-        return Blob::new(alloc, &[]);
-    };
-    match read_bytes(alloc, found, "") {
+    match value_at(value, name) {
+        Some(found) => bytes_or_empty(alloc, found),
+        None => Blob::new(alloc, &[]),
+    }
+}
+
+pub(crate) fn bytes_or_empty(alloc: Global, value: &Value) -> Result<Blob, OutOfMemory>
+    ensures { IfOk result (λ b. b ≡ bytes_or_empty (view value.now)) }
+{
+    match read_bytes(alloc, value, "") {
         Ok(bytes) => Ok(bytes),
         Err(FieldRefusal::BadField { .. }) => Blob::new(alloc, &[]),
         Err(FieldRefusal::OutOfMemory) => Err(OutOfMemory),
@@ -70,6 +76,42 @@ pub(crate) fn int64_at(alloc: Global, value: &Value, name: Name) -> Result<i64, 
         Err(FieldRefusal::BadField { .. }) => Ok(0),
         Err(FieldRefusal::OutOfMemory) => Err(OutOfMemory),
     }
+}
+
+pub(crate) fn int32_or_zero(alloc: Global, value: &Value) -> Result<i32, OutOfMemory>
+    ensures { IfOk result (λ n. n ≡ int32_or_zero (view value.now)) }
+{
+    match read_int32(alloc, value, "") {
+        Ok(number) => Ok(number),
+        Err(FieldRefusal::BadField { .. }) => Ok(0),
+        Err(FieldRefusal::OutOfMemory) => Err(OutOfMemory),
+    }
+}
+
+/// The microseconds of a duration.
+pub(crate) fn micros_at(alloc: Global, value: &Value, name: Name) -> Result<i64, OutOfMemory>
+    ensures { IfOk result (λ n. n ≡ micros_of name.0.now name.1.now (view value.now)) }
+{
+    match value_at(value, name) {
+        Some(found) => micros_or_zero(alloc, found),
+        None => Ok(0),
+    }
+}
+
+pub(crate) fn micros_or_zero(alloc: Global, value: &Value) -> Result<i64, OutOfMemory>
+    ensures { IfOk result (λ n. n ≡ micros_or_zero (view value.now)) }
+{
+    match read_duration(alloc, value, "") {
+        Ok(micros) => Ok(micros),
+        Err(FieldRefusal::BadField { .. }) => Ok(0),
+        Err(FieldRefusal::OutOfMemory) => Err(OutOfMemory),
+    }
+}
+
+pub(crate) fn is_yes(value: &Value) -> bool
+    ensures { result ≡ is_yes (view value.now) }
+{
+    value.as_bool().unwrap_or(false)
 }
 
 /// The items of an array.

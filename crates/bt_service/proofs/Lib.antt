@@ -1,5 +1,6 @@
 pub mod Said
 pub mod Sizes
+pub mod Progress
+pub mod Alone
 pub mod Makes
-pub mod Commits
 pub mod Handles

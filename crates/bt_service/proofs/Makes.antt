@@ -1,26 +1,26 @@
 -- A reply's change, made.
-use Rattle.std.proofs.Common.{◌≡◌, ℕ, Bool, true, false, List, [], ◌∷◌, take, refl, sym, subst}
-use Rattle.bt_crash.specs.Changes.{after_all, HoldsSome, StepsThrough}
-use Rattle.bt_crash.proofs.Chains.{OnlyNow, not_begun}
+use Rattle.std.proofs.Common.{◌≡◌, ◌<◌, ℕ, Bool, true, false, List, [], length, take, inl, inr, refl, sym, ap, ◌∙◌, subst}
+use Rattle.std.specs.Prelude.{Result, Ok, Err}
+use Rattle.bt_crash.specs.Changes.{HoldsSome, StepsThrough}
+use Rattle.bt_crash.proofs.Chains.{OnlyNow}
 use Rattle.bt_messages.specs.Refusals.{refusal_line}
 use Rattle.bt_messages.specs.declared.refusal.Refusal.TheVariants.{ChangeTooLarge, DiskFailed, OutOfMemory}
 use Rattle.bt_outside.specs.declared.disk.Disk.{Ghosts}
 use Rattle.bt_replies.specs.Plans.{IsSaid, answer_bytes}
-use Rattle.bt_replies.specs.Replies.{Reply, refused}
+use Rattle.bt_replies.specs.Replies.{Reply, reply_lines}
 use Rattle.bt_replies.specs.declared.answer.Answer.{Answer}
+use Rattle.bt_service.specs.Commits.{AreThere, CommitsSo}
+use Rattle.bt_service.specs.Outcomes.{IsUsable, outcome_of}
 use Rattle.bt_service.specs.Steps.{EndsIf, Leaves, Made}
-use Rattle.bt_service.specs.Turns.{GoesSo, How, ended, refused_on_the_way, whole, tried_by, unless_too_large}
-use Rattle.bt_service.proofs.Sizes.{nothing_large}
+use Rattle.bt_service.specs.Turns.{GoesSo, How, ended, refused_on_the_way, whole, fitting, tried_by, unless_too_large}
+use Rattle.bt_service.specs.declared.records.ChangeFault.{ChangeFault}
+use Rattle.bt_service.specs.declared.records.ChangeFault.TheVariants as change
+use Rattle.bt_service.proofs.Progress.{after_same, none_there}
+use Rattle.bt_service.proofs.Sizes.{cut, cut_records, is_cut, not_cut}
 use Rattle.bt_state.specs.State.{Event, State, after_record, after_records}
 use Rattle.bt_store.specs.Held.{HoldsState}
 use Rattle.bt_store.specs.Stands.{Seen, Stands}
 use Rattle.bt_store.specs.declared.limits.Limits.{Limits}
-use Rattle.bt_store.proofs.Holds.{stands_hold}
-
--- the two words for the state after records
-pub after_same : (s : State) (rs : List (List Event)) → after_all after_record s rs ≡ after_records s rs
-after_same s [] = refl
-after_same s (r ∷ rs) = after_same (after_record s r) rs
 
 module _ {D : Type 0} (disk : Ghosts D) (limits : Limits) (s : State) (r : Reply) where
   -- a change that was made of what the reply is known to be
@@ -36,23 +36,56 @@ module _ {D : Type 0} (disk : Ghosts D) (limits : Limits) (s : State) (r : Reply
   }
 
   module _ (now : D) (store : Seen) (law : OnlyNow disk now) (stands : Stands store s (disk.held now) (disk.may_leave now)) where
-    -- no call of the disk was made
-    still : StepsThrough disk HoldsState after_record s [] now now
-    still = not_begun disk HoldsState after_record s [] now law (λ tells c left. stands_hold store s (disk.held now) (disk.may_leave now) stands c left)
-
     pub made_said : (answer : Answer) → IsSaid answer r → Made disk limits s r now now store (answer_bytes answer) false
-    made_said answer is = makes r (nothing_large limits s.present r is.records) whole [] now now store (answer_bytes answer) false (is.lines, sym is.records) tt stands still
+    made_said answer is =
+        makes r (not_cut limits s.present r (ap (fitting limits s.present.last) is.records ∙ sym is.records)) whole [] now now store (answer_bytes answer) false (is.lines, sym is.records) tt stands
+        (none_there disk s now store law stands).steps
 
     pub made_without_memory : Made disk limits s r now now store (refusal_line OutOfMemory) false
-    made_without_memory = makes (unless_too_large limits s.present r) refl refused_on_the_way [] now now store (refusal_line OutOfMemory) false ((0, refl), refl) tt stands still
+    made_without_memory =
+        makes (unless_too_large limits s.present r) refl refused_on_the_way [] now now store (refusal_line OutOfMemory) false ((0, refl), (0, inl refl, refl)) tt stands
+        (none_there disk s now store law stands).steps
 
-    pub made_too_large : unless_too_large limits s.present r ≡ refused ChangeTooLarge → Made disk limits s r now now store (refusal_line ChangeTooLarge) false
-    made_too_large is = makes (refused ChangeTooLarge) is whole [] now now store (refusal_line ChangeTooLarge) false (refl, refl) tt stands still
+  -- the records that fit
+  abbrev fit : List (List Event)
+  fit = fitting limits s.present.last r.records
 
-  -- the records of a disk that failed: as many as it reads
-  pub made_ended : (old new : D) (store : Seen) → unless_too_large limits s.present r ≡ r → StepsThrough disk HoldsState after_record s r.records old new → HoldsSome HoldsState after_record s r.records (disk.held new)
-      → Made disk limits s r old new store (refusal_line DiskFailed) true
-  made_ended old new store is steps reads =
-      makes r is ended (take reads.0 r.records) old new store (refusal_line DiskFailed) true ((0, refl), (reads.0, refl)) refl
-      (subst (λ (t : State). HoldsState t (disk.held new)) (after_same s (take reads.0 r.records)) reads.2)
-      steps
+  module _ (old new : D) (store : Seen) where
+    pub made_whole : (answer : Answer) → answer_bytes answer ≡ reply_lines r → fit ≡ r.records → AreThere disk s r.records old new store → Made disk limits s r old new store (answer_bytes answer) false
+    made_whole answer lines all there =
+        makes r (not_cut limits s.present r all) whole r.records old new store (answer_bytes answer) false (lines, refl) tt there.stands there.steps
+
+    pub made_too_large : length fit < length r.records → AreThere disk s fit old new store → Made disk limits s r old new store (refusal_line ChangeTooLarge) false
+    made_too_large fewer there =
+        makes (cut limits s.present r) (is_cut limits s.present r fewer) whole fit old new store (refusal_line ChangeTooLarge) false (refl, refl) tt there.stands there.steps
+
+    pub made_on_the_way : (n : ℕ) → n < length fit → AreThere disk s (take n fit) old new store → Made disk limits s r old new store (refusal_line OutOfMemory) false
+    made_on_the_way n fewer there =
+        let same = cut_records limits s.present r in
+        makes (unless_too_large limits s.present r) refl refused_on_the_way (take n fit) old new store (refusal_line OutOfMemory) false
+        ((0, refl), (n, inr (subst (λ (rs : List (List Event)). n < length rs) (sym same) fewer), ap (take n) (sym same))) tt there.stands there.steps
+
+    -- the records of a disk that failed: as many as it reads
+    pub made_ended : StepsThrough disk HoldsState after_record s fit old new → HoldsSome HoldsState after_record s fit (disk.held new) → Made disk limits s r old new store (refusal_line DiskFailed) true
+    made_ended steps reads =
+        let same = cut_records limits s.present r in
+        makes (unless_too_large limits s.present r) refl ended (take reads.0 fit) old new store (refusal_line DiskFailed) true
+        ((0, refl), (reads.0, ap (take reads.0) (sym same))) refl
+        (subst (λ (t : State). HoldsState t (disk.held new)) (after_same s (take reads.0 fit)) reads.2)
+        (subst (λ (rs : List (List Event)). StepsThrough disk HoldsState after_record s rs old new) (sym same) steps)
+
+-- what is said of the records is what was made
+module _ {D T : Type 0} (disk : Ghosts D) (limits : Limits) (s : State) (old new : D) (store : Seen) (answer : Answer) where
+  pub made_changes : (r : Reply) (tells : disk.tells) → disk.may_leave new (disk.held new) → answer_bytes answer ≡ reply_lines r → (result : Result T ChangeFault) → CommitsSo disk limits s r.records old new store result
+      → Made disk limits s r old new store (answer_bytes (outcome_of result answer).answer) (outcome_of result answer).has_ended
+  made_changes r tells reads lines (Ok x) so = made_whole disk limits s r old new store answer lines so.0 so.1
+  made_changes r tells reads lines (Err change.TooLarge) so = made_too_large disk limits s r old new store so.0 so.1
+  made_changes r tells reads lines (Err change.OutOfMemory) so = made_on_the_way disk limits s r old new store so.0 so.1 so.2
+  made_changes r tells reads lines (Err change.DiskFailed) so = made_ended disk limits s r old new store so (so.now tells (disk.held new) reads)
+
+  -- the store may go on being used, unless the disk failed
+  pub usable_changes : (rs : List (List Event)) (result : Result T ChangeFault) → CommitsSo disk limits s rs old new store result → IsUsable disk (outcome_of result answer).has_ended store new
+  usable_changes rs (Ok x) so = (after_records s rs, so.1.stands)
+  usable_changes rs (Err change.TooLarge) so = (after_records s (fitting limits s.present.last rs), so.1.stands)
+  usable_changes rs (Err change.OutOfMemory) so = (after_records s (take so.0 (fitting limits s.present.last rs)), so.2.stands)
+  usable_changes rs (Err change.DiskFailed) so = tt

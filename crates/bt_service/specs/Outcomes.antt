@@ -2,8 +2,6 @@
 use Rattle.std.specs.Prelude.{◌⊎◌, ◌≡◌, ℕ, Bool, true, false, Result, Ok, Err}
 use Rattle.bt_base.specs.Counts.{Risen}
 use Rattle.bt_gate.specs.Faults.{WriteFailed}
-use Rattle.bt_gate.specs.declared.log_fault.LogFault.{LogFault}
-use Rattle.bt_gate.specs.declared.log_fault.LogFault.TheVariants as fault
 use Rattle.bt_messages.specs.declared.refusal.Refusal.TheVariants as refusal
 use Rattle.bt_outside.specs.declared.disk.Disk.{Ghosts}
 use Rattle.bt_replies.specs.declared.answer.Answer.{Answer}
@@ -11,19 +9,20 @@ use Rattle.bt_replies.specs.declared.answer.Answer.TheVariants.{Refused}
 use Rattle.bt_service.specs.declared.handled.Handled.{Handled}
 use Rattle.bt_service.specs.declared.handled.Handled.TheVariants.{Answered, DiskEnded, LinkLost}
 use Rattle.bt_service.specs.declared.outcome.Outcome.{Outcome}
+use Rattle.bt_service.specs.declared.records.ChangeFault.{ChangeFault}
+use Rattle.bt_service.specs.declared.records.ChangeFault.TheVariants.{DiskFailed, OutOfMemory, TooLarge}
 use Rattle.bt_state.specs.State.{State}
 use Rattle.bt_store.specs.Stands.{Seen, Stands}
 
 abbrev pub says : Answer → Outcome
 says answer = record { answer = answer; has_ended = false }
 
--- what is said once a commit has answered so
-abbrev pub outcome_of : {T : Type 0} → Result T LogFault → Answer → Outcome
+-- what is said once the records of a change were committed, or some of them
+abbrev pub outcome_of : {T : Type 0} → Result T ChangeFault → Answer → Outcome
 outcome_of (Ok x) answer = says answer
-outcome_of (Err (fault.TooLarge n)) answer = says (Refused refusal.ChangeTooLarge)
-outcome_of (Err fault.OutOfMemory) answer = says (Refused refusal.OutOfMemory)
-outcome_of (Err fault.DiskFailed) answer = record { answer = Refused refusal.DiskFailed; has_ended = true }
-outcome_of (Err (fault.Damaged file at)) answer = record { answer = Refused refusal.DiskFailed; has_ended = true }
+outcome_of (Err TooLarge) answer = says (Refused refusal.ChangeTooLarge)
+outcome_of (Err OutOfMemory) answer = says (Refused refusal.OutOfMemory)
+outcome_of (Err DiskFailed) answer = record { answer = Refused refusal.DiskFailed; has_ended = true }
 
 -- by the link and the disk
 abbrev pub handled_by : {T E : Type 0} → Bool → Result T E → Handled

@@ -1,12 +1,12 @@
 -- The turns of lines.
-use Rattle.std.specs.Prelude.{◌≡◌, ◌||◌, ℕ, ◌+◌, nat_lt, Bool, true, false, List, [], ◌∷◌, ◌++◌, length, map, take, if◌then◌else◌}
-use Rattle.std.specs.List.{flat_map, list_any}
+use Rattle.std.specs.Prelude.{◌≡◌, ◌⊎◌, ◌<◌, ◌==◌, ◌||◌, ℕ, ◌+◌, nat_lt, Bool, true, false, List, [], ◌∷◌, ◌++◌, length, map, take, if◌then◌else◌}
+use Rattle.std.specs.List.{flat_map}
 use Rattle.bt_entry.specs.Spelling.{spelling}
 use Rattle.bt_messages.specs.Refusals.{refusal_line}
 use Rattle.bt_messages.specs.declared.refusal.Refusal.{Refusal}
 use Rattle.bt_messages.specs.declared.refusal.Refusal.TheVariants.{ChangeTooLarge, DiskFailed, OutOfMemory}
 use Rattle.bt_replies.specs.Lines.{reply_to}
-use Rattle.bt_replies.specs.Replies.{Reply, refused, reply_lines}
+use Rattle.bt_replies.specs.Replies.{Reply, reply_lines}
 use Rattle.bt_state.specs.State.{Event, Present, State, after_records, greatest_sequence, moment_used, numbered}
 use Rattle.bt_store.specs.declared.limits.Limits.{Limits}
 
@@ -17,11 +17,19 @@ abbrev pub record_body : List Event → List ℕ
 record_body events = spelling (map (numbered 0) events)
 
 -- its body is longer than the limit, or one of its entries would have a sequence above the greatest
-abbrev pub is_too_large : Limits → Present → List Event → Bool
-is_too_large limits p events = nat_lt limits.body (length (record_body events)) || nat_lt greatest_sequence (p.last + length events)
+abbrev pub is_too_large : Limits → ℕ → List Event → Bool
+is_too_large limits last events = nat_lt limits.body (length (record_body events)) || nat_lt greatest_sequence (last + length events)
 
+-- the records before the first one that is too large, where the last sequence is this one
+abbrev pub fitting : Limits → ℕ → List (List Event) → List (List Event)
+fitting limits last [] = []
+fitting limits last (r ∷ rs) = if is_too_large limits last r then [] else r ∷ fitting limits (last + length r) rs
+
+-- A record that is too large is refused, and those behind it; those before it are there.
 abbrev pub unless_too_large : Limits → Present → Reply → Reply
-unless_too_large limits p r = if list_any (is_too_large limits p) r.records then refused ChangeTooLarge else r
+unless_too_large limits p r =
+    if length (fitting limits p.last r.records) == length r.records then r
+    else record { responses = []; status = refusal_line ChangeTooLarge; records = fitting limits p.last r.records }
 
 -- In this state the line is replied so at that moment. It is a relation: some requests have several lawful replies.
 unfoldable pub IsReply : Limits → State → List ℕ → ℕ → Reply → Type 0
@@ -32,7 +40,7 @@ IsReply limits s line m r = r ≡ unless_too_large limits s.present (reply_to s.
 pub data How : Type 0 where
   -- whole, with all its records
   whole : How
-  -- refused on the way, for want of memory
+  -- refused on the way, for want of memory, before one of its records or before all
   refused_on_the_way : How
   -- the disk failed, and the run ends
   ended : How
@@ -41,10 +49,14 @@ pub data How : Type 0 where
 abbrev pub IsCutShort : Refusal → Reply → List ℕ → Type 0
 IsCutShort why r out = (n : ℕ) × (out ≡ flat_map (λ line. line) (take n r.responses) ++ refusal_line why)
 
+-- the first n of its records, but not all of several or of one
+abbrev pub IsShortOf : ℕ → Reply → Type 0
+IsShortOf n r = (n ≡ 0) ⊎ (n < length r.records)
+
 -- it is given so, and these of its records are there
 abbrev pub GoesSo : How → Reply → List ℕ → List (List Event) → Type 0
 GoesSo whole r out records = (out ≡ reply_lines r) × (records ≡ r.records)
-GoesSo refused_on_the_way r out records = IsCutShort OutOfMemory r out × (records ≡ [])
+GoesSo refused_on_the_way r out records = IsCutShort OutOfMemory r out × ((n : ℕ) × IsShortOf n r × (records ≡ take n r.records))
 GoesSo ended r out records = IsCutShort DiskFailed r out × ((n : ℕ) × (records ≡ take n r.records))
 
 -- what a line was given

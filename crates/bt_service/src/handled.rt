@@ -20,14 +20,15 @@ pub enum Handled {
     /// The link failed, perhaps in the middle of the reply. The change of the line, if it has
     /// one, is made.
     LinkLost,
-    /// A write, a cut or a sync of the disk failed: the change of the line is there or not, and the
-    /// store is only dropped. The link may have failed too.
+    /// A write, a cut or a sync of the disk failed: the first ones of the line's records are there,
+    /// or none, and the store is only dropped. The link may have failed too.
     DiskEnded,
 }
 
-/// Answers a line at the moment used for it, in microseconds since 1970. Its change is on the disk
-/// before its reply is written. Want of memory is answered too, by a constant line with code 8, and
-/// changes nothing.
+/// Answers a line at the moment used for it, in microseconds since 1970. The records of its change
+/// are on the disk before its reply is written, each whole or not at all. A record that is too large
+/// is refused, with those behind it. Want of memory is answered too, by a constant line with code 8:
+/// the record at which memory ran out is not there, nor those behind it.
 pub fn handle<D: Disk, L: Links<D>>(
     alloc: Global,
     store: &mut Store,

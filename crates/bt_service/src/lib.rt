@@ -3,5 +3,6 @@
 
 mod handled;
 mod outcome;
+mod records;
 
 pub use handled::{Handled, handle};

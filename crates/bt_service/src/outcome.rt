@@ -9,12 +9,12 @@ ghost use Rattle.bt_service.specs.Steps.{Made};
 ghost use Rattle.bt_state.specs.State.{State};
 ghost use Rattle.bt_store.specs.Stands.{Stands};
 
+use crate::records::{ChangeFault, commit_records};
 use bt_base::OutOfMemory;
-use bt_entry::Entry;
 use bt_messages::Refusal;
 use bt_outside::Disk;
 use bt_replies::{Answer, Plan, planned};
-use bt_store::{Store, StoreFault};
+use bt_store::Store;
 use std::alloc::Global;
 
 /// What is to be written for a line, and whether the disk failed, so that the run ends.
@@ -24,7 +24,7 @@ pub(crate) struct Outcome {
     pub(crate) has_ended: bool,
 }
 
-/// Makes the change of a line, if it has one.
+/// Makes the change of a line, if it has one, as far as it can be made.
 pub(crate) fn made<D: Disk>(
     alloc: Global,
     store: &mut Store,
@@ -41,7 +41,7 @@ pub(crate) fn made<D: Disk>(
     ensures limits { store.new.limits ≡ store.old.limits }
 {
     match planned(alloc, store.present(), line, moment) {
-        Ok(plan) => carried_out(alloc, store, disk, plan, moment),
+        Ok(plan) => carried_out(alloc, store, disk, plan),
         Err(OutOfMemory) => said(Answer::Refused(Refusal::OutOfMemory)),
     }
 }
@@ -55,37 +55,30 @@ fn said(answer: Answer) -> Outcome
     }
 }
 
-fn carried_out<D: Disk>(
-    alloc: Global,
-    store: &mut Store,
-    disk: &mut D,
-    plan: Plan,
-    moment: u64,
-) -> Outcome
+fn carried_out<D: Disk>(alloc: Global, store: &mut Store, disk: &mut D, plan: Plan) -> Outcome
     requires stands { D.tells → (s : State) × Stands store.old s (D.held disk.old) (D.may_leave disk.old) }
-    requires plan { (r : Reply) × IsPlan plan store.old.present moment r }
-    ensures made { D.tells → (s : State) → Stands store.old s (D.held disk.old) (D.may_leave disk.old) → (r : Reply) → IsPlan plan store.old.present moment r → Made D.Disk store.old.limits s r disk.old disk.new store.new (answer_bytes result.answer) result.has_ended }
+    requires plan { (r : Reply) × IsPlan plan store.old.present r }
+    ensures made { D.tells → (s : State) → Stands store.old s (D.held disk.old) (D.may_leave disk.old) → (r : Reply) → IsPlan plan store.old.present r → Made D.Disk store.old.limits s r disk.old disk.new store.new (answer_bytes result.answer) result.has_ended }
     ensures usable { D.tells → IsUsable D.Disk result.has_ended store.new disk.new }
     ensures counted { FailsIf D.Disk result.has_ended disk.old disk.new }
     ensures limits { store.new.limits ≡ store.old.limits }
 {
     match plan {
         Plan::Says(answer) => said(answer),
-        Plan::Changes { entry, answer } => {
-            committed(store.commit(alloc, disk, entry, moment), answer)
+        Plan::Changes { records, answer } => {
+            committed(commit_records(alloc, store, disk, records), answer)
         }
     }
 }
 
-// What is said once a commit has answered so. No commit finds damage.
-fn committed(commit: Result<(), StoreFault>, answer: Answer) -> Outcome
-    ensures { result ≡ outcome_of commit answer }
+fn committed(commits: Result<(), ChangeFault>, answer: Answer) -> Outcome
+    ensures { result ≡ outcome_of commits answer }
 {
-    match commit {
+    match commits {
         Ok(()) => said(answer),
-        Err(StoreFault::TooLarge { .. }) => said(Answer::Refused(Refusal::ChangeTooLarge)),
-        Err(StoreFault::OutOfMemory) => said(Answer::Refused(Refusal::OutOfMemory)),
-        Err(StoreFault::DiskFailed | StoreFault::Damaged { .. }) => Outcome {
+        Err(ChangeFault::TooLarge) => said(Answer::Refused(Refusal::ChangeTooLarge)),
+        Err(ChangeFault::OutOfMemory) => said(Answer::Refused(Refusal::OutOfMemory)),
+        Err(ChangeFault::DiskFailed) => Outcome {
             answer: Answer::Refused(Refusal::DiskFailed),
             has_ended: true,
         },

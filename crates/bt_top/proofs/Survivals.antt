@@ -10,7 +10,7 @@ use Rattle.bt_outside.specs.Disk.{Files}
 use Rattle.bt_outside.specs.declared.disk.Disk.{Ghosts}
 use Rattle.bt_service.specs.Steps.{Leaves}
 use Rattle.bt_service.specs.Turns.{Given, GoesOn, How, Turn, ended, records_of, refused_on_the_way, tried, tried_by, whole}
-use Rattle.bt_service.proofs.Makes.{after_same}
+use Rattle.bt_service.proofs.Progress.{after_same}
 use Rattle.bt_state.specs.State.{Event, State, after_record, after_records}
 use Rattle.bt_store.specs.Held.{HoldsState}
 use Rattle.bt_store.specs.Stands.{Seen, Stands}

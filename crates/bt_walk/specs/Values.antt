@@ -3,6 +3,7 @@ use Rattle.std.specs.Prelude.{ℕ, ◌==◌, ◌&&◌, ◌||◌, Bool, true, fal
 use Rattle.serde_json.specs.Data.{Data}
 use Rattle.serde_json.specs.Find.{at, as_null, as_str, as_bool, as_number, as_u64, as_array}
 use Rattle.bt_text.specs.Bytes.{bytes_in}
+use Rattle.bt_text.specs.Duration.{duration_in}
 use Rattle.bt_text.specs.Enum.{enum_in}
 use Rattle.bt_text.specs.Int32.{int32_in}
 use Rattle.bt_text.specs.Int64.{int64_in}
@@ -11,13 +12,15 @@ use Rattle.bt_walk.specs.declared.found.Pass.TheVariants.{ForUnsupported, ForBad
 use Rattle.bt_walk.specs.declared.shape.Many.{Many}
 use Rattle.bt_walk.specs.declared.shape.Many.TheVariants.{One, List as Listed, Map}
 use Rattle.bt_walk.specs.declared.shape.Shape.{Shape}
-use Rattle.bt_walk.specs.declared.shape.Shape.TheVariants.{Anything, Bool as Flag, Bytes, Enum, Int32, Int64, Of, Text}
+use Rattle.bt_walk.specs.declared.shape.Shape.TheVariants.{Anything, AnyEnum, Bool as Flag, Bytes, Duration, Enum, Int32, Int64, Of, Text}
 
 -- a value without parts, in the grammar of its shape; an enum's names are those of its list
 abbrev pub fits : (ℕ → List ℕ) → Shape → Data → Bool
 fits names Anything d = true
+fits names AnyEnum d = is_some (as_str d) || is_some (int32_in d)
 fits names Flag d = is_some (as_bool d)
 fits names Bytes d = is_some (bytes_in d)
+fits names Duration d = is_some (duration_in d)
 fits names (Enum list) d = is_some (enum_in (names list) d)
 fits names Int32 d = is_some (int32_in d)
 fits names Int64 d = is_some (int64_in d)

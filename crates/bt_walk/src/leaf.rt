@@ -6,7 +6,7 @@ ghost use Rattle.bt_walk.specs.Values.{fits, leaf, is_zero, is_blank, has_nothin
 
 use crate::found::Pass;
 use crate::shape::{Many, Schema, Shape};
-use bt_text::{is_bytes, is_enum, is_int32, is_int64};
+use bt_text::{is_bytes, is_duration, is_enum, is_int32, is_int64};
 use serde_json::Value;
 
 /// The fault of a value that has no parts of its shape.
@@ -38,8 +38,10 @@ pub(crate) fn fits<S: Schema>(schema: &S, shape: Shape, value: &Value) -> bool
 {
     match shape {
         Shape::Anything => true,
+        Shape::AnyEnum => value.as_str().is_some() || is_int32(value),
         Shape::Bool => value.as_bool().is_some(),
         Shape::Bytes => is_bytes(value),
+        Shape::Duration => is_duration(value),
         Shape::Enum(list) => is_enum(value, schema.names(list)),
         Shape::Int32 => is_int32(value),
         Shape::Int64 => is_int64(value),

@@ -12,8 +12,11 @@ pub struct Name(pub &'static str, pub &'static str);
 pub enum Shape {
     /// Not looked into.
     Anything,
+    /// An enum whose value has no effect: any string, or any int32.
+    AnyEnum,
     Bool,
     Bytes,
+    Duration,
     /// An enum, by the number of the list of its names.
     Enum(u8),
     Int32,

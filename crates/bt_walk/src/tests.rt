@@ -37,11 +37,12 @@ macro_rules! member {
     };
 }
 
-static MEMBERS: [Member; 7] = [
+static MEMBERS: [Member; 9] = [
     member!("anyPart", "any_part", One, Shape::Of(0), 1, Full),
     member!("bothParts", "both_parts", List, Shape::Of(0), 0, Full),
     member!("count", "count", One, Shape::Int64, 1, Full),
     member!("flag", "flag", One, Shape::Bool, 1, Full),
+    member!("kind", "kind", One, Shape::AnyEnum, 0, Full),
     member!("named", "named", Map, Shape::Of(0), 0, Full),
     member!(
         "rareThing",
@@ -52,6 +53,7 @@ static MEMBERS: [Member; 7] = [
         UnlessNull
     ),
     member!("text", "text", One, Shape::Text, 0, Full),
+    member!("wait", "wait", One, Shape::Duration, 0, Full),
 ];
 
 fn told(alloc: Global, text: &str) -> Result<String, Fail> {
@@ -92,6 +94,9 @@ fn the_first_fault_is_told(rt: HostRuntime) -> Result<(), Fail> {
         ),
         (r#"{"rareThing":null,"both_parts":5,"ball":1}"#, "- ball"),
         (r#"{"both_parts":5,"bowl":1}"#, "- bothParts"),
+        (r#"{"kind":"ANY","wait":"-1.5s"}"#, "- -"),
+        (r#"{"kind":2147483648,"wait":"1s"}"#, "- kind"),
+        (r#"{"kind":-1,"wait":1}"#, "- wait"),
     ] {
         let told = told(rt.alloc(), text)?;
         assert_eq!(rt; told.as_str(), want, "at {text}");

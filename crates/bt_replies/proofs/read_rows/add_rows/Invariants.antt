@@ -4,4 +4,10 @@ use Rattle.bt_replies.proofs.read_rows.add_rows.Given as goal
 
 -- the rows so far, and those that are left
 abbrev pub invariant-loop-key : goal.invariant-loop-key
-invariant-loop-key l = with_rows l.reply l.key-iterator ≡ with_rows l.initial.reply l.fn.contents
+invariant-loop-key g l = record {
+  same : g.X.Reading.same l.initial.x l.x;
+  rows : g.X.Reading.tells l.initial.x → with_rows l.reply (g.R.Rows.left l.rows l.x).rows ≡ with_rows l.initial.reply (g.R.Rows.left l.initial.rows l.initial.x).rows;
+}
+
+abbrev pub decreases-loop-key : goal.decreases-loop-key
+decreases-loop-key g l = g.R.Rows.most l.rows

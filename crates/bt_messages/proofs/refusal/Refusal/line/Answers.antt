@@ -34,6 +34,10 @@ pub returns-in-BadRowKey : goal.returns-in-BadRowKey
 unfolding line_on_literals
 returns-in-BadRowKey c = rw c.in-BadRowKey.is refl
 
+pub returns-in-NoEntries : goal.returns-in-NoEntries
+unfolding line_on_literals
+returns-in-NoEntries c = rw c.in-NoEntries.is refl
+
 pub returns-in-NoMutations : goal.returns-in-NoMutations
 unfolding line_on_literals
 returns-in-NoMutations c = rw c.in-NoMutations.is refl
@@ -62,9 +66,49 @@ pub returns-in-ValueTooLarge : goal.returns-in-ValueTooLarge
 unfolding line_on_literals
 returns-in-ValueTooLarge c = rw c.in-ValueTooLarge.is refl
 
+pub returns-in-BadTimeRange : goal.returns-in-BadTimeRange
+unfolding line_on_literals
+returns-in-BadTimeRange c = rw c.in-BadTimeRange.is refl
+
 pub returns-in-BadFamilyName : goal.returns-in-BadFamilyName
 unfolding line_on_literals
 returns-in-BadFamilyName c = rw c.in-BadFamilyName.is refl
+
+pub returns-in-BadGcRule : goal.returns-in-BadGcRule
+unfolding line_on_literals
+returns-in-BadGcRule c = rw c.in-BadGcRule.is refl
+
+pub returns-in-BadRetention : goal.returns-in-BadRetention
+unfolding line_on_literals
+returns-in-BadRetention c = rw c.in-BadRetention.is refl
+
+pub returns-in-BadPageToken : goal.returns-in-BadPageToken
+unfolding line_on_literals
+returns-in-BadPageToken c = rw c.in-BadPageToken.is refl
+
+pub returns-in-NoModifications : goal.returns-in-NoModifications
+unfolding line_on_literals
+returns-in-NoModifications c = rw c.in-NoModifications.is refl
+
+pub returns-in-ModificationWithoutKind : goal.returns-in-ModificationWithoutKind
+unfolding line_on_literals
+returns-in-ModificationWithoutKind c = rw c.in-ModificationWithoutKind.is refl
+
+pub returns-in-FlagNotTrue : goal.returns-in-FlagNotTrue
+unfolding line_on_literals
+returns-in-FlagNotTrue c = rw c.in-FlagNotTrue.is refl
+
+pub returns-in-FamilyExists : goal.returns-in-FamilyExists
+unfolding line_on_literals
+returns-in-FamilyExists c = rw c.in-FamilyExists.is refl
+
+pub returns-in-BadUpdateMask : goal.returns-in-BadUpdateMask
+unfolding line_on_literals
+returns-in-BadUpdateMask c = rw c.in-BadUpdateMask.is refl
+
+pub returns-in-NoTarget : goal.returns-in-NoTarget
+unfolding line_on_literals
+returns-in-NoTarget c = rw c.in-NoTarget.is refl
 
 pub returns-in-TooManyFamilies : goal.returns-in-TooManyFamilies
 unfolding line_on_literals
