@@ -1,0 +1,4 @@
+pub mod Meaning
+pub mod Flaws
+pub mod Building
+pub mod Counting
