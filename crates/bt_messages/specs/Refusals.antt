@@ -3,7 +3,7 @@ use Rattle.std.specs.Prelude.{ℕ, List, ◌++◌, codes}
 use Rattle.std.specs.Str.Lossy.{utf8_lossy}
 use Rattle.bt_messages.specs.Lines.{line_of, status_data}
 use Rattle.bt_messages.specs.declared.refusal.Refusal.{Refusal}
-use Rattle.bt_messages.specs.declared.refusal.Refusal.TheVariants.{NotJson, NoEntries, BadTimeRange, BadGcRule, BadRetention, BadPageToken, NoModifications, ModificationWithoutKind, FlagNotTrue, FamilyExists, BadUpdateMask, NoTarget, BadEnvelope, UnknownMethod, NotBuilt, BadName, TableNotFound, TableExists, BadRowKey, NoMutations, TooManyMutations, MutationWithoutKind, FamilyNotFound, QualifierTooLong, BadTimestamp, ValueTooLarge, BadFamilyName, TooManyFamilies, TooManyTables, ChangeTooLarge, OutOfMemory, DiskFailed, LineTooLong, ConnectionTooLong, LineNotEnded}
+use Rattle.bt_messages.specs.declared.refusal.Refusal.TheVariants.{NotJson, NoEntries, BadTimeRange, BadGcRule, BadRetention, BadPageToken, NoModifications, ModificationWithoutKind, FlagNotTrue, FamilyExists, BadUpdateMask, NoTarget, FilterTooDeep, TooManyFilters, FilterTooLarge, TooManyPatterns, SinkUnderCondition, BadLabel, TwoLabels, NegativeCount, BadPattern, PatternTooLarge, BadEnvelope, UnknownMethod, NotBuilt, BadName, TableNotFound, TableExists, BadRowKey, NoMutations, TooManyMutations, MutationWithoutKind, FamilyNotFound, QualifierTooLong, BadTimestamp, ValueTooLarge, BadFamilyName, TooManyFamilies, TooManyTables, ChangeTooLarge, OutOfMemory, DiskFailed, LineTooLong, ConnectionTooLong, LineNotEnded}
 
 -- the code of a refusal
 abbrev pub refusal_code : Refusal → ℕ
@@ -34,6 +34,16 @@ refusal_code FlagNotTrue = 3
 refusal_code FamilyExists = 6
 refusal_code BadUpdateMask = 3
 refusal_code NoTarget = 3
+refusal_code FilterTooDeep = 3
+refusal_code TooManyFilters = 3
+refusal_code FilterTooLarge = 3
+refusal_code TooManyPatterns = 3
+refusal_code SinkUnderCondition = 3
+refusal_code BadLabel = 3
+refusal_code TwoLabels = 3
+refusal_code NegativeCount = 3
+refusal_code BadPattern = 3
+refusal_code PatternTooLarge = 3
 refusal_code TooManyFamilies = 9
 refusal_code TooManyTables = 9
 refusal_code ChangeTooLarge = 9
@@ -72,6 +82,16 @@ refusal_text FlagNotTrue = codes "flag not true"
 refusal_text FamilyExists = codes "family exists"
 refusal_text BadUpdateMask = codes "bad update mask"
 refusal_text NoTarget = codes "no target"
+refusal_text FilterTooDeep = codes "filter too deep"
+refusal_text TooManyFilters = codes "too many filters"
+refusal_text FilterTooLarge = codes "filter too large"
+refusal_text TooManyPatterns = codes "too many patterns"
+refusal_text SinkUnderCondition = codes "sink under condition"
+refusal_text BadLabel = codes "bad label"
+refusal_text TwoLabels = codes "two labels in a chain"
+refusal_text NegativeCount = codes "negative count"
+refusal_text BadPattern = codes "bad pattern"
+refusal_text PatternTooLarge = codes "pattern too large"
 refusal_text TooManyFamilies = codes "too many families"
 refusal_text TooManyTables = codes "too many tables"
 refusal_text ChangeTooLarge = codes "change too large"

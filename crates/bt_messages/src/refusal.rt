@@ -58,6 +58,26 @@ pub enum Refusal {
     BadUpdateMask,
     /// The request names no rows to be dropped.
     NoTarget,
+    /// The filter is more than 20 deep.
+    FilterTooDeep,
+    /// The filter has more than 1,024 nodes.
+    TooManyFilters,
+    /// The patterns, bounds, family names and labels of the filter have more than 20,480 bytes.
+    FilterTooLarge,
+    /// The filter has more than 16 patterns that are not plain.
+    TooManyPatterns,
+    /// A sink stands below a condition.
+    SinkUnderCondition,
+    /// A label is not 1 to 15 characters of `[a-z0-9\-]`.
+    BadLabel,
+    /// Two parts of a chain of filters have a label in them.
+    TwoLabels,
+    /// A filter's number of cells is negative.
+    NegativeCount,
+    /// A filter's text is no pattern, or is one of family names and has a `:`.
+    BadPattern,
+    /// A filter's pattern is larger than those that are built.
+    PatternTooLarge,
     /// The table would have more than 100 families.
     TooManyFamilies,
     /// The service would have more than 1,000 tables.
@@ -124,6 +144,23 @@ impl Refusal {
             Refusal::BadUpdateMask =>
                 b"{\"status\":{\"code\":3,\"message\":\"bad update mask\"}}\n",
             Refusal::NoTarget => b"{\"status\":{\"code\":3,\"message\":\"no target\"}}\n",
+            Refusal::FilterTooDeep =>
+                b"{\"status\":{\"code\":3,\"message\":\"filter too deep\"}}\n",
+            Refusal::TooManyFilters =>
+                b"{\"status\":{\"code\":3,\"message\":\"too many filters\"}}\n",
+            Refusal::FilterTooLarge =>
+                b"{\"status\":{\"code\":3,\"message\":\"filter too large\"}}\n",
+            Refusal::TooManyPatterns =>
+                b"{\"status\":{\"code\":3,\"message\":\"too many patterns\"}}\n",
+            Refusal::SinkUnderCondition =>
+                b"{\"status\":{\"code\":3,\"message\":\"sink under condition\"}}\n",
+            Refusal::BadLabel => b"{\"status\":{\"code\":3,\"message\":\"bad label\"}}\n",
+            Refusal::TwoLabels =>
+                b"{\"status\":{\"code\":3,\"message\":\"two labels in a chain\"}}\n",
+            Refusal::NegativeCount => b"{\"status\":{\"code\":3,\"message\":\"negative count\"}}\n",
+            Refusal::BadPattern => b"{\"status\":{\"code\":3,\"message\":\"bad pattern\"}}\n",
+            Refusal::PatternTooLarge =>
+                b"{\"status\":{\"code\":3,\"message\":\"pattern too large\"}}\n",
             Refusal::TooManyFamilies =>
                 b"{\"status\":{\"code\":9,\"message\":\"too many families\"}}\n",
             Refusal::TooManyTables =>
@@ -171,6 +208,16 @@ impl Refusal {
             Refusal::FamilyExists => 6,
             Refusal::BadUpdateMask => 3,
             Refusal::NoTarget => 3,
+            Refusal::FilterTooDeep => 3,
+            Refusal::TooManyFilters => 3,
+            Refusal::FilterTooLarge => 3,
+            Refusal::TooManyPatterns => 3,
+            Refusal::SinkUnderCondition => 3,
+            Refusal::BadLabel => 3,
+            Refusal::TwoLabels => 3,
+            Refusal::NegativeCount => 3,
+            Refusal::BadPattern => 3,
+            Refusal::PatternTooLarge => 3,
             Refusal::TooManyFamilies => 9,
             Refusal::TooManyTables => 9,
             Refusal::ChangeTooLarge => 9,
@@ -214,6 +261,16 @@ impl Refusal {
             Refusal::FamilyExists => "family exists",
             Refusal::BadUpdateMask => "bad update mask",
             Refusal::NoTarget => "no target",
+            Refusal::FilterTooDeep => "filter too deep",
+            Refusal::TooManyFilters => "too many filters",
+            Refusal::FilterTooLarge => "filter too large",
+            Refusal::TooManyPatterns => "too many patterns",
+            Refusal::SinkUnderCondition => "sink under condition",
+            Refusal::BadLabel => "bad label",
+            Refusal::TwoLabels => "two labels in a chain",
+            Refusal::NegativeCount => "negative count",
+            Refusal::BadPattern => "bad pattern",
+            Refusal::PatternTooLarge => "pattern too large",
             Refusal::TooManyFamilies => "too many families",
             Refusal::TooManyTables => "too many tables",
             Refusal::ChangeTooLarge => "change too large",

@@ -110,6 +110,46 @@ pub returns-in-NoTarget : goal.returns-in-NoTarget
 unfolding line_on_literals
 returns-in-NoTarget c = rw c.in-NoTarget.is refl
 
+pub returns-in-FilterTooDeep : goal.returns-in-FilterTooDeep
+unfolding line_on_literals
+returns-in-FilterTooDeep c = rw c.in-FilterTooDeep.is refl
+
+pub returns-in-TooManyFilters : goal.returns-in-TooManyFilters
+unfolding line_on_literals
+returns-in-TooManyFilters c = rw c.in-TooManyFilters.is refl
+
+pub returns-in-FilterTooLarge : goal.returns-in-FilterTooLarge
+unfolding line_on_literals
+returns-in-FilterTooLarge c = rw c.in-FilterTooLarge.is refl
+
+pub returns-in-TooManyPatterns : goal.returns-in-TooManyPatterns
+unfolding line_on_literals
+returns-in-TooManyPatterns c = rw c.in-TooManyPatterns.is refl
+
+pub returns-in-SinkUnderCondition : goal.returns-in-SinkUnderCondition
+unfolding line_on_literals
+returns-in-SinkUnderCondition c = rw c.in-SinkUnderCondition.is refl
+
+pub returns-in-BadLabel : goal.returns-in-BadLabel
+unfolding line_on_literals
+returns-in-BadLabel c = rw c.in-BadLabel.is refl
+
+pub returns-in-TwoLabels : goal.returns-in-TwoLabels
+unfolding line_on_literals
+returns-in-TwoLabels c = rw c.in-TwoLabels.is refl
+
+pub returns-in-NegativeCount : goal.returns-in-NegativeCount
+unfolding line_on_literals
+returns-in-NegativeCount c = rw c.in-NegativeCount.is refl
+
+pub returns-in-BadPattern : goal.returns-in-BadPattern
+unfolding line_on_literals
+returns-in-BadPattern c = rw c.in-BadPattern.is refl
+
+pub returns-in-PatternTooLarge : goal.returns-in-PatternTooLarge
+unfolding line_on_literals
+returns-in-PatternTooLarge c = rw c.in-PatternTooLarge.is refl
+
 pub returns-in-TooManyFamilies : goal.returns-in-TooManyFamilies
 unfolding line_on_literals
 returns-in-TooManyFamilies c = rw c.in-TooManyFamilies.is refl
