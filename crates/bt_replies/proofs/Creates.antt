@@ -62,7 +62,7 @@ ascend before (f ∷ fs) none sorted above =
     let below : is_below before f.name ≡ true = ap (λ r. match_ordering r true false false) above in
     ((and_from (is_family_name f.name) (is_below before f.name) first.0 below, first.1), ascend f.name fs both.1 sorted.1 (first_above f.name fs sorted.0))
 
-above_nothing : (name : List ℕ) → is_family_name name ≡ true → slice_cmp nat_cmp [] name ≡ Less
+pub above_nothing : (name : List ℕ) → is_family_name name ≡ true → slice_cmp nat_cmp [] name ≡ Less
 above_nothing [] lawful = absurd cc
 above_nothing (b ∷ bs) lawful = refl
 

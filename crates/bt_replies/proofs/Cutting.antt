@@ -63,7 +63,7 @@ abbrev pub total : {A : Type 0} → List (List A) → ℕ
 total [] = 0
 total (piece ∷ pieces) = length piece + total pieces
 
-length-numbered_from : (first m : ℕ) (es : List Entry) → length (numbered_from first m es) ≡ length es
+pub length-numbered_from : (first m : ℕ) (es : List Entry) → length (numbered_from first m es) ≡ length es
 length-numbered_from first m [] = refl
 length-numbered_from first m (e ∷ es) = ap suc (length-numbered_from (first + 1) m es)
 

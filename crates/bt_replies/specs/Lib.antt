@@ -7,5 +7,7 @@ pub mod NoPlans
 pub mod MutateRows
 pub mod Drops
 pub mod Modifications
+pub mod Losses
+pub mod Families
 pub mod Records
 pub mod Prefixes

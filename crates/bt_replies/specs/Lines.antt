@@ -1,5 +1,5 @@
--- What a line is answered.
-use Rattle.std.specs.Prelude.{ℕ, List, Result, Ok, Err}
+-- What a line may be answered.
+use Rattle.std.specs.Prelude.{◌≡◌, ℕ, List, Result, Ok, Err}
 use Rattle.serde_json.specs.Data.{Data}
 use Rattle.bt_messages.specs.Refusals.{bad_field_line, refusal_line, unsupported_line}
 use Rattle.bt_messages.specs.declared.refusal.Refusal.{Refusal}
@@ -16,23 +16,24 @@ use Rattle.bt_requests.specs.declared.request.Request.TheVariants.{CreateTable, 
 use Rattle.bt_schema.specs.Schema.{table_of}
 use Rattle.bt_state.specs.State.{Present}
 use Rattle.bt_replies.specs.Drops.{drop_reply}
+use Rattle.bt_replies.specs.Modifications.{modify_reply}
 use Rattle.bt_replies.specs.MutateRows.{mutate_rows_reply}
 use Rattle.bt_replies.specs.Replies.{Reply, refused, refused_by}
-use Rattle.bt_replies.specs.Rows.{mutate_reply, read_reply}
+use Rattle.bt_replies.specs.Rows.{IsReadReply, mutate_reply}
 use Rattle.bt_replies.specs.Tables.{create_reply, delete_reply, get_reply, list_reply, update_reply}
 
--- the reply to a request
-abbrev pub request_reply : Present → ℕ → Request → Reply
-request_reply p m (CreateTable name families retention) = create_reply p m name families retention (table_of name p.schema)
-request_reply p m (GetTable name) = get_reply (table_of name p.schema)
-request_reply p m (ListTables parent page_token) = list_reply p parent page_token
-request_reply p m (DeleteTable name) = delete_reply m (table_of name p.schema)
-request_reply p m (UpdateTable name mask retention) = update_reply p m mask retention (table_of name p.schema)
-request_reply p m (ModifyColumnFamilies name changes) = refused refusal.NotBuilt
-request_reply p m (DropRowRange name target) = drop_reply p m target (table_of name p.schema)
-request_reply p m (MutateRow name key ms) = mutate_reply m key ms (table_of name p.schema)
-request_reply p m (MutateRows name entries) = mutate_rows_reply m entries (table_of name p.schema)
-request_reply p m (ReadRows name) = read_reply p (table_of name p.schema)
+-- the replies to a request
+abbrev pub IsRequestReply : Present → ℕ → Request → Reply → Type 0
+IsRequestReply p m (CreateTable name families retention) r = r ≡ create_reply p m name families retention (table_of name p.schema)
+IsRequestReply p m (GetTable name) r = r ≡ get_reply (table_of name p.schema)
+IsRequestReply p m (ListTables parent page_token) r = r ≡ list_reply p parent page_token
+IsRequestReply p m (DeleteTable name) r = r ≡ delete_reply m (table_of name p.schema)
+IsRequestReply p m (UpdateTable name mask retention) r = r ≡ update_reply p m mask retention (table_of name p.schema)
+IsRequestReply p m (ModifyColumnFamilies name changes) r = r ≡ modify_reply p m changes (table_of name p.schema)
+IsRequestReply p m (DropRowRange name target) r = r ≡ drop_reply p m target (table_of name p.schema)
+IsRequestReply p m (MutateRow name key ms) r = r ≡ mutate_reply m key ms (table_of name p.schema)
+IsRequestReply p m (MutateRows name entries) r = r ≡ mutate_rows_reply m entries (table_of name p.schema)
+IsRequestReply p m (ReadRows name filter) r = IsReadReply p filter (table_of name p.schema) r
 
 -- the status line of a request that is refused for what it holds
 abbrev pub request_refusal_line : RequestRefusal → List ℕ
@@ -42,9 +43,9 @@ request_refusal_line (request.BadField name) = bad_field_line name
 request_refusal_line request.BadName = refusal_line refusal.BadName
 request_refusal_line request.OutOfMemory = refusal_line refusal.OutOfMemory
 
-abbrev pub asked_reply : Present → ℕ → Result Request RequestRefusal → Reply
-asked_reply p m (Err why) = refused_by (request_refusal_line why)
-asked_reply p m (Ok r) = request_reply p m r
+abbrev pub IsAskedReply : Present → ℕ → Result Request RequestRefusal → Reply → Type 0
+IsAskedReply p m (Err why) r = r ≡ refused_by (request_refusal_line why)
+IsAskedReply p m (Ok request) r = IsRequestReply p m request r
 
 -- the refusal of a line that holds no request
 abbrev pub envelope_refusal : LineRefusal → Refusal
@@ -53,10 +54,10 @@ envelope_refusal line.BadEnvelope = refusal.BadEnvelope
 envelope_refusal line.UnknownMethod = refusal.UnknownMethod
 envelope_refusal line.OutOfMemory = refusal.OutOfMemory
 
-abbrev pub enveloped_reply : Present → ℕ → Result (Method × Data) LineRefusal → Reply
-enveloped_reply p m (Err why) = refused (envelope_refusal why)
-enveloped_reply p m (Ok x) = asked_reply p m (request_in x.0 x.1)
+abbrev pub IsEnvelopedReply : Present → ℕ → Result (Method × Data) LineRefusal → Reply → Type 0
+IsEnvelopedReply p m (Err why) r = r ≡ refused (envelope_refusal why)
+IsEnvelopedReply p m (Ok x) r = IsAskedReply p m (request_in x.0 x.1) r
 
--- the reply to a line at a moment, where no change is too large
-abbrev pub reply_to : Present → ℕ → List ℕ → Reply
-reply_to p m bytes = enveloped_reply p m (envelope_of bytes)
+-- The replies to a line at a moment, where no change is too large.
+abbrev pub IsReplyTo : Present → ℕ → List ℕ → Reply → Type 0
+IsReplyTo p m bytes r = IsEnvelopedReply p m (envelope_of bytes) r

@@ -40,3 +40,7 @@ pub record IsChange (records : List (List Numbered)) (answer : Answer) (p : Pres
 abbrev pub IsPlan : Plan → Present → Reply → Type 0
 IsPlan (Says answer) p r = IsSaid answer r
 IsPlan (Changes records answer) p r = IsChange records answer p r
+
+-- it is a plan of one of these replies
+abbrev pub IsPlanOf : Plan → Present → (Reply → Type 0) → Type 0
+IsPlanOf plan p Replies = (r : Reply) × Replies r × IsPlan plan p r

@@ -1,10 +1,19 @@
 -- What requests on rows are answered.
-use Rattle.std.specs.Prelude.{ℕ, false, List, [], ◌∷◌, Option, Some, None, option_map, if◌then◌else◌}
+use Rattle.std.specs.Prelude.{◌≡◌, ◌⊎◌, ℕ, false, not, List, [], ◌∷◌, map, filter, Option, Some, None, option_map, if◌then◌else◌}
 use Rattle.serde_json.specs.Data.{Data}
 use Rattle.bt_types.specs.Grammar.{is_row_key}
+use Rattle.bt_types.specs.declared.cell.Cell.{Cell}
 use Rattle.bt_entry.specs.declared.entry.Entry.TheVariants.{Row}
 use Rattle.bt_entry.specs.declared.table_info.TableInfo.{TableInfo}
-use Rattle.bt_messages.specs.Chunks.{chunks_of, read_data}
+use Rattle.bt_filter.specs.Building.{filter_of}
+use Rattle.bt_filter.specs.Flaws.{IsRefusedFor, IsValidFilter}
+use Rattle.bt_filter.specs.Meaning.{final_cells}
+use Rattle.bt_filter.specs.declared.asked.AskedFilter.{AskedFilter}
+use Rattle.bt_filter.specs.declared.filter.Filter.{Filter}
+use Rattle.bt_filter.specs.declared.refusal.FilterRefusal.TheVariants.{BadFilter}
+use Rattle.bt_filter.specs.declared.refusal.Why.{Why}
+use Rattle.bt_filter.specs.declared.refusal.Why.TheVariants as why
+use Rattle.bt_messages.specs.Chunks.{chunks_of, is_end, read_data}
 use Rattle.bt_messages.specs.Lines.{line_of, ok_line}
 use Rattle.bt_messages.specs.declared.refusal.Refusal.{Refusal}
 use Rattle.bt_messages.specs.declared.refusal.Refusal.TheVariants as refusal
@@ -52,7 +61,36 @@ read_responses (d ∷ ds) = line_of (read_data (d ∷ ds)) ∷ []
 abbrev pub rows_reply : Contents → Reply
 rows_reply rows = record { responses = read_responses (chunks_of rows); status = ok_line; records = [] }
 
--- ReadRows (google.bigtable.v2): all rows in the order of their keys
-abbrev pub read_reply : Present → Option TableInfo → Reply
-read_reply p None = refused refusal.TableNotFound
-read_reply p (Some t) = rows_reply (rows_of t.incarnation p.contents)
+-- the refusal of a request for its filter
+abbrev pub refusal_for_filter : Why → Refusal
+refusal_for_filter why.TooDeep = refusal.FilterTooDeep
+refusal_for_filter why.TooMany = refusal.TooManyFilters
+refusal_for_filter why.TooLarge = refusal.FilterTooLarge
+refusal_for_filter why.TooManyPatterns = refusal.TooManyPatterns
+refusal_for_filter why.SinkUnderCondition = refusal.SinkUnderCondition
+refusal_for_filter why.FlagNotTrue = refusal.FlagNotTrue
+refusal_for_filter why.BadLabel = refusal.BadLabel
+refusal_for_filter why.TwoLabels = refusal.TwoLabels
+refusal_for_filter why.NegativeCount = refusal.NegativeCount
+refusal_for_filter why.BadTimeRange = refusal.BadTimeRange
+refusal_for_filter why.BadPattern = refusal.BadPattern
+refusal_for_filter why.LargePattern = refusal.PatternTooLarge
+
+-- a row with the cells that the filter leaves
+abbrev pub filtered_row : Filter → (List ℕ × List Cell) → (List ℕ × List Cell)
+filtered_row f row = (row.0, final_cells f row.0 row.1)
+
+-- the rows so, without those that are left with no cell
+abbrev pub filtered : Filter → Contents → Contents
+filtered f rows = filter (λ row. not (is_end row.1)) (map (filtered_row f) rows)
+
+-- Over these rows: all that the filter leaves, where nothing is against it, or the refusal for what is against it.
+abbrev pub IsFilteredReply : AskedFilter → Contents → Reply → Type 0
+IsFilteredReply f rows r =
+    (IsValidFilter f × (r ≡ rows_reply (filtered (filter_of f) rows)))
+    ⊎ ((cause : Why) × (node : ℕ) × IsRefusedFor f (BadFilter cause node) × (r ≡ refused (refusal_for_filter cause)))
+
+-- ReadRows (google.bigtable.v2): the rows in the order of their keys, each with what the filter leaves of it
+abbrev pub IsReadReply : Present → AskedFilter → Option TableInfo → Reply → Type 0
+IsReadReply p f None r = r ≡ refused refusal.TableNotFound
+IsReadReply p f (Some t) r = IsFilteredReply f (rows_of t.incarnation p.contents) r

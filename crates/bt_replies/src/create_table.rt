@@ -14,7 +14,7 @@ ghost use Rattle.bt_schema.specs.Schema.{most_tables, new_table, table_of};
 ghost use Rattle.bt_state.specs.State.{IsLawful};
 
 use crate::answer::Answer;
-use crate::families::lawful_families;
+use crate::families::{MOST_FAMILIES, lawful_families};
 use crate::no_plan::NoPlan;
 use crate::plan::{Plan, next_sequence};
 use crate::retention::lawful_retention;
@@ -27,8 +27,6 @@ use bt_schema::set_retention;
 use bt_state::Present;
 use bt_types::TableName;
 use std::alloc::Global;
-
-const MOST_FAMILIES: usize = 100;
 
 const MOST_TABLES: usize = 1000;
 

@@ -16,6 +16,9 @@ use bt_types::FamilyName;
 use std::alloc::Global;
 use std::str;
 
+/// A table has no more families (`google.bigtable.admin.v2.Table.column_families`).
+pub(crate) const MOST_FAMILIES: usize = 100;
+
 /// The families of a new table, where each name and each rule is lawful.
 pub(crate) fn lawful_families(alloc: Global, asked: AskedFamilyList) -> Result<Families, NoPlan>
     ensures refusal { Refuses (first_refusal asked) result }
@@ -32,11 +35,20 @@ fn lawful_family(alloc: Global, asked: AskedFamily) -> Result<Family, NoPlan>
     ensures refusal { Refuses (family_refusal asked) result }
     ensures family { IfOk result (λ f. f ≡ record { name = asked.name; rule = asked.rule }) }
 {
-    let Some(name) = family_name(alloc, asked.name.bytes())? else {
-        return Err(NoPlan::Refused(Refusal::BadFamilyName));
-    };
+    let name = lawful_name(alloc, asked.name.bytes())?;
     let rule = lawful_rule(asked.rule)?;
     Ok(Family { name, rule })
+}
+
+/// The name that the bytes are, where they are one.
+pub(crate) fn lawful_name(alloc: Global, bytes: &[u8]) -> Result<FamilyName, NoPlan>
+    ensures refusal { Refuses (refused_if (not (is_family_name bytes.now)) refusal.BadFamilyName) result }
+    ensures name { IfOk result (λ name. name ≡ bytes.now) }
+{
+    match family_name(alloc, bytes)? {
+        Some(name) => Ok(name),
+        None => Err(NoPlan::Refused(Refusal::BadFamilyName)),
+    }
 }
 
 // A name is ASCII, so what is no UTF-8 is none.
@@ -50,7 +62,8 @@ fn family_name(alloc: Global, bytes: &[u8]) -> Result<Option<FamilyName>, OutOfM
     }
 }
 
-fn lawful_rule(asked: Option<Rule>) -> Result<Option<Rule>, Refusal>
+/// The rule, where it is lawful or there is none.
+pub(crate) fn lawful_rule(asked: Option<Rule>) -> Result<Option<Rule>, Refusal>
     ensures refusal { result_err result ≡ refused_if (not (is_lawful_or_none asked)) refusal.BadGcRule }
     ensures rule { IfOk result (λ rule. rule ≡ asked) }
 {

@@ -2,8 +2,8 @@
 ghost use Rattle.std.specs.Prelude.{◌≡◌, ◌≤◌, IfOk};
 ghost use Rattle.serde_json.specs.View.{view};
 ghost use Rattle.bt_entry.specs.Grammar.{last_moment};
-ghost use Rattle.bt_replies.specs.Lines.{asked_reply, envelope_refusal, reply_to, request_refusal_line, request_reply};
-ghost use Rattle.bt_replies.specs.Plans.{IsPlan};
+ghost use Rattle.bt_replies.specs.Lines.{IsAskedReply, IsReplyTo, IsRequestReply, envelope_refusal, request_refusal_line};
+ghost use Rattle.bt_replies.specs.Plans.{IsPlan, IsPlanOf};
 ghost use Rattle.bt_replies.specs.Replies.{refused_by};
 ghost use Rattle.bt_requests.specs.Readers.{HasOrder};
 ghost use Rattle.bt_requests.specs.Requests.{request_in};
@@ -15,6 +15,7 @@ use crate::delete_table::delete_table;
 use crate::drop_row_range::drop_row_range;
 use crate::get_table::get_table;
 use crate::list_tables::list_tables;
+use crate::modify_column_families::modify_column_families;
 use crate::mutate_row::mutate_row;
 use crate::mutate_rows::mutate_rows;
 use crate::plan::Plan;
@@ -38,7 +39,7 @@ pub fn planned(
 ) -> Result<Plan, OutOfMemory>
     requires not_before { present.now.floor ≤ moment }
     requires not_past { moment ≤ last_moment }
-    ensures { IfOk result (λ plan. IsPlan plan present.now (reply_to present.now moment line.now)) }
+    ensures { IfOk result (λ plan. IsPlanOf plan present.now (IsReplyTo present.now moment line.now)) }
 {
     match read_envelope(alloc, line) {
         Ok((method, value)) => asked_plan(alloc, present, method, &value, moment),
@@ -67,7 +68,7 @@ fn asked_plan(
 ) -> Result<Plan, OutOfMemory>
     requires not_before { present.now.floor ≤ moment }
     requires not_past { moment ≤ last_moment }
-    ensures { IfOk result (λ plan. IsPlan plan present.now (asked_reply present.now moment (request_in method (view value.now)))) }
+    ensures { IfOk result (λ plan. IsPlanOf plan present.now (IsAskedReply present.now moment (request_in method (view value.now)))) }
 {
     match read_request(alloc, method, value) {
         Ok(request) => request_plan(alloc, present, request, moment),
@@ -104,7 +105,7 @@ fn request_plan(
     requires order { HasOrder request }
     requires not_before { present.now.floor ≤ moment }
     requires not_past { moment ≤ last_moment }
-    ensures { IfOk result (λ plan. IsPlan plan present.now (request_reply present.now moment request)) }
+    ensures { IfOk result (λ plan. IsPlanOf plan present.now (IsRequestReply present.now moment request)) }
 {
     match request {
         Request::CreateTable {
@@ -122,7 +123,9 @@ fn request_plan(
             mask,
             retention,
         } => update_table(alloc, present, &name, &mask, retention, moment),
-        Request::ModifyColumnFamilies { .. } => Ok(Plan::refuses(Refusal::NotBuilt)),
+        Request::ModifyColumnFamilies { name, changes } => {
+            modify_column_families(alloc, present, &name, changes, moment)
+        }
         Request::DropRowRange { name, target } => {
             drop_row_range(alloc, present, &name, target, moment)
         }
@@ -134,6 +137,6 @@ fn request_plan(
         Request::MutateRows { name, entries } => {
             mutate_rows(alloc, present, &name, entries, moment)
         }
-        Request::ReadRows { name } => read_rows(alloc, present, &name),
+        Request::ReadRows { name, filter } => read_rows(alloc, present, &name, filter),
     }
 }

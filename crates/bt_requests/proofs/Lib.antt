@@ -1,4 +1,5 @@
 pub mod Looks
 pub mod FamilyOrder
-pub mod Levels
+pub mod RuleLevels
+pub mod FilterLevels
 pub mod Parents

@@ -1,8 +1,7 @@
 pub mod Methods
 pub mod Envelopes
-pub mod Tables
-pub mod Values
 pub mod Rules
+pub mod Filters
 pub mod Readers
 pub mod Refusals
 pub mod Requests

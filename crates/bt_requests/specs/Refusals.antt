@@ -6,14 +6,14 @@ use Rattle.bt_walk.specs.declared.found.Pass.{Pass}
 use Rattle.bt_walk.specs.declared.found.Pass.TheVariants.{ForUnsupported, ForBad}
 use Rattle.bt_walk.specs.declared.shape.Many.TheVariants.{One}
 use Rattle.bt_walk.specs.declared.shape.Shape.TheVariants.{Of}
-use Rattle.bt_requests.specs.Tables.{requests}
+use Rattle.bt_members.specs.Tables.{messages}
 use Rattle.bt_requests.specs.declared.refusal.RequestRefusal.{RequestRefusal}
 use Rattle.bt_requests.specs.declared.refusal.RequestRefusal.TheVariants.{NotBuilt, Unsupported, BadField, BadName, OutOfMemory}
 use Rattle.bt_requests.specs.declared.request.Request.{Request}
 
 -- the first fault of a request's object
 unfoldable pub first_fault : Pass → ℕ → Data → Option (List ℕ)
-first_fault pass message d = fault requests pass One (Of message) (codes "request") d
+first_fault pass message d = fault messages pass One (Of message) (codes "request") d
 
 abbrev pub or_refusal : Option RequestRefusal → Option RequestRefusal → Option RequestRefusal
 or_refusal None b = b

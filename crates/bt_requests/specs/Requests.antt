@@ -3,7 +3,7 @@ use Rattle.std.specs.Prelude.{ℕ, Option, Some, None, Result, Ok, Err}
 use Rattle.serde_json.specs.Data.{Data}
 use Rattle.bt_requests.specs.Readers.{create_table, get_table, list_tables, delete_table, update_table, modify_column_families, drop_row_range, read_rows, mutate_row, mutate_rows}
 use Rattle.bt_requests.specs.Refusals.{members_refusal}
-use Rattle.bt_requests.specs.declared.kinds.TheConstants as kinds
+use Rattle.bt_members.specs.declared.kinds.TheConstants as kinds
 use Rattle.bt_requests.specs.declared.method.Method.{Method}
 use Rattle.bt_requests.specs.declared.method.Method.TheVariants as method
 use Rattle.bt_requests.specs.declared.refusal.RequestRefusal.{RequestRefusal}
@@ -17,6 +17,7 @@ message_of method.GetTable = Some kinds.GET_TABLE
 message_of method.ListTables = Some kinds.LIST_TABLES
 message_of method.DeleteTable = Some kinds.DELETE_TABLE
 message_of method.UpdateTable = Some kinds.UPDATE_TABLE
+message_of method.ModifyColumnFamilies = Some kinds.MODIFY_COLUMN_FAMILIES
 message_of method.DropRowRange = Some kinds.DROP_ROW_RANGE
 message_of method.MutateRows = Some kinds.MUTATE_ROWS
 message_of method.ReadRows = Some kinds.READ_ROWS

@@ -3,7 +3,7 @@ use Rattle.std.specs.Prelude.{ℕ, zero, suc, ℤ, pos, negsuc, List, [], ◌∷
 use Rattle.serde_json.specs.Data.{Data, Items, no_items, item}
 use Rattle.bt_rules.specs.declared.rule.Rule.{Rule}
 use Rattle.bt_rules.specs.declared.rule.Rule.TheVariants.{Versions, Age, Intersection, Union}
-use Rattle.bt_requests.specs.Values.{choose, value_at, items_at, int32_or_zero, micros_or_zero}
+use Rattle.bt_members.specs.Values.{choose, value_at, items_at, int32_or_zero, micros_or_zero}
 
 -- a negative number is read as 0
 abbrev pub at_least_zero : ℤ → ℕ

@@ -4,11 +4,10 @@ ghost use Rattle.serde_json.specs.View.{view, members_view};
 ghost use Rattle.bt_requests.specs.Readers.{Ascend, IsInOrder, create_table, families_in, families_of, family, retention_in};
 
 use crate::families::{AskedFamily, AskedFamilyList};
-use crate::names;
 use crate::request::Request;
 use crate::rules::rule_of_family;
-use crate::values::{members_at, micros_at, text_at, value_at};
 use bt_base::{Blob, OutOfMemory};
+use bt_members::{members_at, micros_at, names, text_at, value_at};
 use bt_types::TableName;
 use serde_json::{Map, Value};
 use std::alloc::Global;

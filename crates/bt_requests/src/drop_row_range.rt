@@ -4,10 +4,9 @@ ghost use Rattle.serde_json.specs.View.{view};
 ghost use Rattle.bt_requests.specs.Readers.{IsInOrder, drop_row_range, target_in};
 
 use crate::named_table::named_table;
-use crate::names;
 use crate::request::{DropTarget, Request};
-use crate::values::{bytes_or_empty, is_yes, value_at};
 use bt_base::OutOfMemory;
+use bt_members::{bytes_or_empty, is_yes, names, value_at};
 use serde_json::Value;
 use std::alloc::Global;
 

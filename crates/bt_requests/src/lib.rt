@@ -5,22 +5,19 @@ mod create_table;
 mod drop_row_range;
 mod envelope;
 mod families;
+mod filters;
 mod json;
-mod kinds;
 mod list_tables;
 mod method;
 mod modifications;
 mod mutations;
 mod named_table;
-mod names;
 mod order;
 mod read_rows;
 mod refusal;
 mod request;
 mod rows;
 mod rules;
-mod table;
-mod values;
 
 pub use envelope::{LineRefusal, read_envelope};
 pub use families::{AskedFamily, AskedFamilyList, FamilyChange, Modification, ModificationList};
@@ -30,5 +27,7 @@ pub use refusal::RequestRefusal;
 pub use request::{DropTarget, Request};
 pub use rows::{AskedEntry, AskedEntryList};
 
+#[cfg(test)]
+mod filter_tests;
 #[cfg(test)]
 mod tests;

@@ -4,10 +4,9 @@ ghost use Rattle.serde_json.specs.View.{view};
 ghost use Rattle.bt_types.specs.Grammar.{is_parent, lawful};
 ghost use Rattle.bt_requests.specs.Readers.{IsInOrder, list_tables};
 
-use crate::names;
 use crate::request::Request;
-use crate::values::text_at;
 use bt_base::OutOfMemory;
+use bt_members::{names, text_at};
 use bt_types::{TableName, Text};
 use serde_json::Value;
 use std::alloc::Global;

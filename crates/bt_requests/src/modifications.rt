@@ -5,11 +5,10 @@ ghost use Rattle.bt_requests.specs.Readers.{IsInOrder, modify_column_families, m
 
 use crate::families::{FamilyChange, Modification, ModificationList};
 use crate::named_table::named_table;
-use crate::names;
 use crate::request::Request;
 use crate::rules::rule_of_family;
-use crate::values::{is_yes, items_at, text_bytes_at, value_at};
 use bt_base::OutOfMemory;
+use bt_members::{is_yes, items_at, names, text_bytes_at, value_at};
 use serde_json::Value;
 use std::alloc::Global;
 

@@ -3,11 +3,10 @@ ghost use Rattle.std.specs.Prelude.{◌≡◌, IfOk};
 ghost use Rattle.serde_json.specs.View.{view, items_view};
 ghost use Rattle.bt_requests.specs.Readers.{IsInOrder, mutate_row, mutate_rows, entries_in, entry, mutations_in, mutation_in, set_cell, delete_from_column, bound_of};
 
-use crate::names;
 use crate::request::Request;
 use crate::rows::{AskedEntry, AskedEntryList};
-use crate::values::{bytes_at, int64_at, items_at, text_at, text_bytes_at, value_at};
 use bt_base::OutOfMemory;
+use bt_members::{bytes_at, int64_at, items_at, names, text_at, text_bytes_at, value_at};
 use bt_mutation::{AskedMutation, AskedMutationList};
 use bt_types::TableName;
 use bt_walk::Name;

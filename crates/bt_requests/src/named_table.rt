@@ -4,10 +4,9 @@ ghost use Rattle.serde_json.specs.View.{view};
 ghost use Rattle.bt_requests.specs.Readers.{IsInOrder, named_table, table_to_update, get_table, delete_table, update_table};
 
 use crate::create_table::retention_in;
-use crate::names;
 use crate::request::Request;
-use crate::values::{text_at, value_at};
 use bt_base::OutOfMemory;
+use bt_members::{names, text_at, value_at};
 use bt_types::{TableName, Text};
 use serde_json::Value;
 use std::alloc::Global;

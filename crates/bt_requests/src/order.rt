@@ -7,7 +7,6 @@ ghost use Rattle.bt_requests.specs.Requests.{request_in, message_of, asked_of};
 
 use crate::create_table::create_table;
 use crate::drop_row_range::drop_row_range;
-use crate::kinds;
 use crate::list_tables::list_tables;
 use crate::method::Method;
 use crate::modifications::modify_column_families;
@@ -17,6 +16,7 @@ use crate::read_rows::read_rows;
 use crate::refusal::{RequestRefusal, members_refusal};
 use crate::request::Request;
 use bt_base::OutOfMemory;
+use bt_members::kinds;
 use serde_json::Value;
 use std::alloc::Global;
 
@@ -48,6 +48,7 @@ fn message_of(method: Method) -> Option<u8>
         Method::ListTables => Some(kinds::LIST_TABLES),
         Method::DeleteTable => Some(kinds::DELETE_TABLE),
         Method::UpdateTable => Some(kinds::UPDATE_TABLE),
+        Method::ModifyColumnFamilies => Some(kinds::MODIFY_COLUMN_FAMILIES),
         Method::DropRowRange => Some(kinds::DROP_ROW_RANGE),
         Method::MutateRows => Some(kinds::MUTATE_ROWS),
         Method::ReadRows => Some(kinds::READ_ROWS),

@@ -3,10 +3,10 @@ ghost use Rattle.std.specs.Prelude.{◌≡◌, IfOk};
 ghost use Rattle.serde_json.specs.View.{view};
 ghost use Rattle.bt_requests.specs.Readers.{IsInOrder, read_rows};
 
-use crate::names;
+use crate::filters::filter_at;
 use crate::request::Request;
-use crate::values::text_at;
 use bt_base::OutOfMemory;
+use bt_members::{names, text_at};
 use bt_types::TableName;
 use serde_json::Value;
 use std::alloc::Global;
@@ -18,5 +18,6 @@ pub(crate) fn read_rows(alloc: Global, value: &Value) -> Result<Option<Request>,
     let Some(name) = TableName::new(alloc, text_at(value, names::TABLE_NAME))? else {
         return Ok(None);
     };
-    Ok(Some(Request::ReadRows { name }))
+    let filter = filter_at(alloc, value)?;
+    Ok(Some(Request::ReadRows { name, filter }))
 }

@@ -3,8 +3,8 @@ ghost use Rattle.std.specs.Prelude.{◌≡◌, option_map, IfOk};
 ghost use Rattle.serde_json.specs.View.{view};
 ghost use Rattle.bt_requests.specs.Refusals.{first_fault, members_refusal};
 
-use crate::table::Requests;
 use bt_base::{Blob, OutOfMemory};
+use bt_members::Messages;
 use bt_walk::{Many, Pass, Shape, fault};
 use serde_json::Value;
 use std::alloc::Global;
@@ -60,7 +60,7 @@ fn first_fault<'v>(pass: Pass, message: u8, value: &'v Value) -> Option<&'v str>
     ensures { option_map (λ n. n.now) result ≡ first_fault pass message (view value.now) }
 {
     fault(
-        &Requests,
+        &Messages,
         pass,
         Many::One,
         Shape::Of(message),

@@ -2,6 +2,7 @@
 use crate::families::{AskedFamilyList, ModificationList};
 use crate::rows::AskedEntryList;
 use bt_base::Blob;
+use bt_filter::AskedFilter;
 use bt_mutation::AskedMutationList;
 use bt_types::{TableName, Text};
 
@@ -15,7 +16,7 @@ pub enum DropTarget {
 }
 
 /// A request whose names of tables are lawful. The rest is as it was read; what the request leaves
-/// out is zero or empty. A retention is in microseconds; it is `None` where there is no
+/// out is zero or empty, and a filter that it leaves out is unset. A retention is in microseconds; it is `None` where there is no
 /// `changeStreamConfig`, and 0 where that has no `retentionPeriod`.
 #[derive(Debug, Drop)]
 pub enum Request {
@@ -57,6 +58,7 @@ pub enum Request {
     /// `google.bigtable.v2.ReadRowsRequest`.
     ReadRows {
         name: TableName,
+        filter: AskedFilter,
     },
     /// `google.bigtable.v2.MutateRowRequest`.
     MutateRow {

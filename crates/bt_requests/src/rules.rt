@@ -3,11 +3,10 @@ ghost use Rattle.std.specs.Prelude.{◌≡◌, [], IfOk, unwrap_or};
 ghost use Rattle.serde_json.specs.View.{view};
 ghost use Rattle.bt_rules.specs.declared.rule.Rule.TheVariants.{Versions, Age, Union};
 ghost use Rattle.bt_requests.specs.Rules.{at_least_zero, rules_in, kind_in, rule_in, rule_of_family};
-ghost use Rattle.bt_requests.specs.Values.{int32_or_zero, micros_or_zero};
+ghost use Rattle.bt_members.specs.Values.{int32_or_zero, micros_or_zero};
 
-use crate::names;
-use crate::values::{int32_or_zero, items_at, micros_or_zero, value_at};
 use bt_base::OutOfMemory;
+use bt_members::{int32_or_zero, items_at, micros_or_zero, names, value_at};
 use bt_rules::{Rule, RuleList};
 use serde_json::Value;
 use std::alloc::Global;
@@ -25,7 +24,7 @@ pub(crate) fn rule_of_family(alloc: Global, value: &Value) -> Result<Option<Rule
 }
 
 // The first levels of a rule.
-#[tactic(auto, using(crate::proofs::Levels::no_level, crate::proofs::Levels::one_level))]
+#[tactic(auto, using(crate::proofs::RuleLevels::no_level, crate::proofs::RuleLevels::one_level))]
 #[cycle(rule_in)]
 fn rule_in(alloc: Global, levels: u8, value: &Value) -> Result<Option<Rule>, OutOfMemory>
     ensures { IfOk result (λ r. r ≡ rule_in levels (view value.now)) }

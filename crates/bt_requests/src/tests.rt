@@ -1,9 +1,8 @@
 //! Each request once, as it is read.
 use super::*;
 use crate::drop_row_range::drop_row_range;
-use crate::modifications::modify_column_families;
 use crate::mutations::mutate_rows;
-use crate::refusal::members_refusal;
+use bt_filter::AskedFilter;
 use bt_mutation::AskedMutation;
 use bt_rules::Rule;
 use serde_json::Value;
@@ -92,13 +91,9 @@ fn a_table_is_named(rt: HostRuntime) -> Result<(), Fail> {
 
 #[test]
 fn families_are_modified(rt: HostRuntime) -> Result<(), Fail> {
-    let alloc = rt.alloc();
-    let value = value(
-        alloc,
-        r#"{"name":"projects/p/instances/i/tables/t","modifications":[{"id":"f","create":{"gcRule":{"maxAge":"-0.5s"}}},{"id":"g","drop":false},{"id":"h","update":{}},{}]}"#,
-    )?;
-    let Some(Request::ModifyColumnFamilies { changes, .. }) = modify_column_families(alloc, &value)?
-    else {
+    let line =
+        r#"{"method":"ModifyColumnFamilies","request":{"name":"projects/p/instances/i/tables/t","modifications":[{"id":"f","create":{"gcRule":{"maxAge":"-0.5s"}}},{"id":"g","drop":false},{"id":"h","update":{}},{}]}}"#;
+    let Request::ModifyColumnFamilies { changes, .. } = asked(rt.alloc(), line)? else {
         return Err(Fail::from("ModifyColumnFamilies"));
     };
     let [create, drop, update, missing] = changes.items() else {
@@ -119,12 +114,11 @@ fn a_mask_of_a_modification_is_not_supported(rt: HostRuntime) -> Result<(), Fail
         alloc,
         r#"{"modifications":[{"zoo":1},{"update":{},"updateMask":"gc_rule"}]}"#,
     )?;
-    let Some(RequestRefusal::Unsupported { name }) = members_refusal(
+    let Err(RequestRefusal::Unsupported { name }) = read_request(
         alloc,
-        kinds::MODIFY_COLUMN_FAMILIES,
+        Method::ModifyColumnFamilies,
         &value,
-    )?
-    else {
+    ) else {
         return Err(Fail::from("not supported"));
     };
     assert_eq!(rt; name.bytes(), b"updateMask".as_slice());
@@ -151,10 +145,11 @@ fn a_range_of_rows_is_dropped(rt: HostRuntime) -> Result<(), Fail> {
 #[test]
 fn rows_are_read(rt: HostRuntime) -> Result<(), Fail> {
     let line = r#"{"method":"ReadRows","request":{"tableName":"projects/p/instances/i/tables/t"}}"#;
-    let Request::ReadRows { name } = asked(rt.alloc(), line)? else {
+    let Request::ReadRows { name, filter } = asked(rt.alloc(), line)? else {
         return Err(Fail::from("ReadRows"));
     };
     assert_eq!(rt; name.text(), "projects/p/instances/i/tables/t");
+    assert!(rt; matches!(&filter, AskedFilter::Unset));
     Ok(())
 }
 

@@ -5,7 +5,8 @@ use Rattle.std.specs.Prelude.{Result, Ok, Err, OnOk, OnErr}
 use Rattle.bt_base.specs.Counts.{Counts, Risen, counted}
 use Rattle.bt_outside.specs.Links.{Adds, AddsPart, LastGoes, Sent}
 use Rattle.bt_outside.specs.declared.disk.Disk.{Ghosts}
-use Rattle.bt_replies.specs.Lines.{reply_to}
+use Rattle.bt_replies.specs.Lines.{IsReplyTo}
+use Rattle.bt_replies.specs.Replies.{Reply}
 use Rattle.bt_service.specs.Outcomes.{handled_by}
 use Rattle.bt_service.specs.Steps.{CountedBy, EndsIf, Made, Suits, Turned, WritesSo}
 use Rattle.bt_service.specs.Turns.{Given, GoesSo, IsGiven, IsReply, unless_too_large}
@@ -24,11 +25,11 @@ suits false (Ok x) given ends fine cut = (ends, fine)
 suits false (Err x) given ends fine cut = (ends, cut)
 
 module _ {D : Type 0} (disk : Ghosts D) (limits : Limits) (s : State) (line : List ℕ) (m : ℕ) (old new : D) (store : Seen) (text : List ℕ) (has_ended : Bool)
-    (made : Made disk limits s (reply_to s.present m line) old new store text has_ended) where
+    (whole : Reply) (replies : IsReplyTo s.present m line whole) (made : Made disk limits s whole old new store text has_ended) where
   -- what was given of it, where this was written
   abbrev given_of : List ℕ → Bool → Given
   given_of out is_cut = record {
-    reply = unless_too_large limits s.present (reply_to s.present m line);
+    reply = unless_too_large limits s.present whole;
     how = made.how;
     out = out;
     is_cut = is_cut;
@@ -36,9 +37,9 @@ module _ {D : Type 0} (disk : Ghosts D) (limits : Limits) (s : State) (line : Li
     records = made.records;
   }
 
-  is_reply : IsReply limits s line m (unless_too_large limits s.present (reply_to s.present m line))
+  is_reply : IsReply limits s line m (unless_too_large limits s.present whole)
   unfolding IsReply
-  is_reply = refl
+  is_reply = (whole, replies, refl)
 
   turned_so : (handled : Handled) (out : List ℕ) (is_cut : Bool) (sent new_sent : List Sent) (faults new_faults : ℕ) → IsGiven limits s line m (given_of out is_cut) → Suits handled (given_of out is_cut) → LastGoes (WritesSo is_cut out (disk.moment new)) sent new_sent
       → CountedBy is_cut faults new_faults → Turned disk handled limits s line m old new store sent new_sent faults new_faults
@@ -60,9 +61,9 @@ module _ {D : Type 0} (disk : Ghosts D) (limits : Limits) (s : State) (line : Li
       turned_so (handled_by has_ended (Ok x)) text false sent new_sent faults new_faults (record { is_reply = is_reply; is_written = made.goes }) (suits has_ended (Ok x) (given_of text false) made.ends refl tt) wrote (counts.fine refl)
   turned (Err x) sent new_sent faults new_faults wrote part counts =
       let piece = said_part text (disk.moment new) sent new_sent part in
-      let whole : text ≡ take piece.0 text ++ drop piece.0 text = sym (take-append-drop piece.0 text) in
-      let goes : GoesSo made.how (unless_too_large limits s.present (reply_to s.present m line)) (take piece.0 text ++ drop piece.0 text) made.records =
-      subst (λ (out : List ℕ). GoesSo made.how (unless_too_large limits s.present (reply_to s.present m line)) out made.records) whole made.goes
+      let same : text ≡ take piece.0 text ++ drop piece.0 text = sym (take-append-drop piece.0 text) in
+      let goes : GoesSo made.how (unless_too_large limits s.present whole) (take piece.0 text ++ drop piece.0 text) made.records =
+      subst (λ (out : List ℕ). GoesSo made.how (unless_too_large limits s.present whole) out made.records) same made.goes
       in
       turned_so (handled_by has_ended (Err x)) (take piece.0 text) true sent new_sent faults new_faults (record { is_reply = is_reply; is_written = (drop piece.0 text, goes) })
       (suits has_ended (Err x) (given_of (take piece.0 text) true) made.ends tt refl) piece.1 (counted_risen faults new_faults (counts.failed refl))

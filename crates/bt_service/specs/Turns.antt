@@ -5,7 +5,7 @@ use Rattle.bt_entry.specs.Spelling.{spelling}
 use Rattle.bt_messages.specs.Refusals.{refusal_line}
 use Rattle.bt_messages.specs.declared.refusal.Refusal.{Refusal}
 use Rattle.bt_messages.specs.declared.refusal.Refusal.TheVariants.{ChangeTooLarge, DiskFailed, OutOfMemory}
-use Rattle.bt_replies.specs.Lines.{reply_to}
+use Rattle.bt_replies.specs.Lines.{IsReplyTo}
 use Rattle.bt_replies.specs.Replies.{Reply, reply_lines}
 use Rattle.bt_state.specs.State.{Event, Present, State, after_records, greatest_sequence, moment_used, numbered}
 use Rattle.bt_store.specs.declared.limits.Limits.{Limits}
@@ -33,7 +33,7 @@ unless_too_large limits p r =
 
 -- In this state the line is replied so at that moment. It is a relation: some requests have several lawful replies.
 unfoldable pub IsReply : Limits → State → List ℕ → ℕ → Reply → Type 0
-IsReply limits s line m r = r ≡ unless_too_large limits s.present (reply_to s.present m line)
+IsReply limits s line m r = (whole : Reply) × IsReplyTo s.present m line whole × (r ≡ unless_too_large limits s.present whole)
 
 -- ---- how a reply is given
 

@@ -1,7 +1,7 @@
 //! A plan, carried out.
 ghost use Rattle.std.specs.Prelude.{◌≡◌, ◌≤◌};
 ghost use Rattle.bt_entry.specs.Grammar.{last_moment};
-ghost use Rattle.bt_replies.specs.Lines.{reply_to};
+ghost use Rattle.bt_replies.specs.Lines.{IsReplyTo};
 ghost use Rattle.bt_replies.specs.Plans.{IsPlan, answer_bytes};
 ghost use Rattle.bt_replies.specs.Replies.{Reply};
 ghost use Rattle.bt_service.specs.Outcomes.{FailsIf, IsUsable, outcome_of, says};
@@ -35,7 +35,7 @@ pub(crate) fn made<D: Disk>(
     requires stands { D.tells → (s : State) × Stands store.old s (D.held disk.old) (D.may_leave disk.old) }
     requires not_before { store.old.present.floor ≤ moment }
     requires not_past { moment ≤ last_moment }
-    ensures made { D.tells → (s : State) → Stands store.old s (D.held disk.old) (D.may_leave disk.old) → Made D.Disk store.old.limits s (reply_to store.old.present moment line.now) disk.old disk.new store.new (answer_bytes result.answer) result.has_ended }
+    ensures made { D.tells → (s : State) → Stands store.old s (D.held disk.old) (D.may_leave disk.old) → (r : Reply) × IsReplyTo store.old.present moment line.now r × Made D.Disk store.old.limits s r disk.old disk.new store.new (answer_bytes result.answer) result.has_ended }
     ensures usable { D.tells → IsUsable D.Disk result.has_ended store.new disk.new }
     ensures counted { FailsIf D.Disk result.has_ended disk.old disk.new }
     ensures limits { store.new.limits ≡ store.old.limits }

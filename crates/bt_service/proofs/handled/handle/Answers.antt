@@ -1,6 +1,5 @@
 use Rattle.std.proofs.Common.{ℕ, List, sym, subst}
-use Rattle.bt_replies.specs.Lines.{reply_to}
-use Rattle.bt_replies.specs.Plans.{answer_bytes}
+use Rattle.bt_replies.specs.Lines.{IsReplyTo}
 use Rattle.bt_service.specs.Steps.{Made, Turned}
 use Rattle.bt_service.specs.declared.handled.Handled.{Handled}
 use Rattle.bt_service.proofs.Handles.{turned}
@@ -15,10 +14,11 @@ returns-clause-turn g c disk_tells links_tells s stands =
     let new = c.made-outcome.new.disk in
     let store = c.made-outcome.new.store in
     let ended = c.made-outcome.result.has_ended in
-    let of_state = subst (λ (p : Present). Made disk limits s (reply_to p c.args.moment c.args.line.now) old new store (answer_bytes c.made-outcome.result.answer) ended) stands.present (c.made-outcome.ensures.made disk_tells s stands) in
-    let made : Made disk limits s (reply_to s.present c.args.moment c.args.line.now) old new store c.bytes.result.now ended =
-    subst (λ (text : List ℕ). Made disk limits s (reply_to s.present c.args.moment c.args.line.now) old new store text ended) (sym c.bytes.ensures) of_state
+    let some = c.made-outcome.ensures.made disk_tells s stands in
+    let replies : IsReplyTo s.present c.args.moment c.args.line.now some.0 = subst (λ (p : Present). IsReplyTo p c.args.moment c.args.line.now some.0) stands.present some.1 in
+    let made : Made disk limits s some.0 old new store c.bytes.result.now ended =
+    subst (λ (text : List ℕ). Made disk limits s some.0 old new store text ended) (sym c.bytes.ensures) some.2
     in
     subst (λ (h : Handled). Turned disk h limits s c.args.line.now c.args.moment old new store (g.L.Links.sent c.args.links.now) (g.L.Links.sent c.write-written.new.self) (g.L.Links.faults c.args.links.now) (g.L.Links.faults c.write-written.new.self)) (sym c.came_of.ensures)
-    (turned disk limits s c.args.line.now c.args.moment old new store c.bytes.result.now ended made c.write-written.result (g.L.Links.sent c.args.links.now) (g.L.Links.sent c.write-written.new.self)
+    (turned disk limits s c.args.line.now c.args.moment old new store c.bytes.result.now ended some.0 replies made c.write-written.result (g.L.Links.sent c.args.links.now) (g.L.Links.sent c.write-written.new.self)
     (g.L.Links.faults c.args.links.now) (g.L.Links.faults c.write-written.new.self) (c.write-written.ensures.ok links_tells) (c.write-written.ensures.err links_tells) c.write-written.ensures.faults)

@@ -1,0 +1,62 @@
+-- Plans of replies, and that there is a reply.
+use Rattle.std.proofs.Common.{◌≡◌, ℕ, List, Option, Some, None, refl, inl, inr}
+use Rattle.std.specs.Prelude.{Result, Ok, Err, IfOk}
+use Rattle.serde_json.specs.Data.{Data}
+use Rattle.bt_contents.specs.Contents.{Contents}
+use Rattle.bt_entry.specs.declared.table_info.TableInfo.{TableInfo}
+use Rattle.bt_filter.specs.Building.{filter_of}
+use Rattle.bt_filter.specs.declared.asked.AskedFilter.{AskedFilter}
+use Rattle.bt_requests.specs.Envelopes.{envelope_of}
+use Rattle.bt_requests.specs.Requests.{request_in}
+use Rattle.bt_requests.specs.declared.envelope.LineRefusal.{LineRefusal}
+use Rattle.bt_requests.specs.declared.method.Method.{Method}
+use Rattle.bt_requests.specs.declared.refusal.RequestRefusal.{RequestRefusal}
+use Rattle.bt_requests.specs.declared.request.Request.{Request}
+use Rattle.bt_requests.specs.declared.request.Request.TheVariants.{CreateTable, GetTable, ListTables, DeleteTable, UpdateTable, ModifyColumnFamilies, DropRowRange, MutateRow, MutateRows, ReadRows}
+use Rattle.bt_replies.specs.Lines.{IsAskedReply, IsEnvelopedReply, IsReplyTo, IsRequestReply}
+use Rattle.bt_replies.specs.Plans.{IsPlan, IsPlanOf}
+use Rattle.bt_replies.specs.Replies.{Reply, refused}
+use Rattle.bt_replies.specs.declared.plan.Plan.{Plan}
+use Rattle.bt_replies.specs.Rows.{IsFilteredReply, IsReadReply, filtered, refusal_for_filter, rows_reply}
+use Rattle.bt_replies.proofs.Verdicts.{valid_or_refused}
+use Rattle.bt_schema.specs.Schema.{table_of}
+use Rattle.bt_state.specs.State.{Present, rows_of}
+
+-- a plan of the only reply that there is
+pub plan_of_one : {E : Type 0} (p : Present) (r : Reply) (result : Result Plan E) → IfOk result (λ plan. (q : Present) → IsPlan plan q r) → IfOk result (λ plan. IsPlanOf plan p (λ x. x ≡ r))
+plan_of_one p r (Ok plan) is = (r, refl, is p)
+plan_of_one p r (Err e) is = tt
+
+filtered_reply : (f : AskedFilter) (rows : Contents) → (r : Reply) × IsFilteredReply f rows r
+filtered_reply f rows = elim (valid_or_refused f) as (λ _. (r : Reply) × IsFilteredReply f rows r) [
+  | inl valid ↦ (rows_reply (filtered (filter_of f) rows), inl (valid, refl))
+  | inr bad ↦ (refused (refusal_for_filter bad.0), inr (bad.0, bad.1, bad.2, refl))
+]
+
+read_reply : (p : Present) (f : AskedFilter) (t : Option TableInfo) → (r : Reply) × IsReadReply p f t r
+read_reply p f None = (_, refl)
+read_reply p f (Some t) = filtered_reply f (rows_of t.incarnation p.contents)
+
+request_reply : (p : Present) (m : ℕ) (request : Request) → (r : Reply) × IsRequestReply p m request r
+request_reply p m (CreateTable name families retention) = (_, refl)
+request_reply p m (GetTable name) = (_, refl)
+request_reply p m (ListTables parent page_token) = (_, refl)
+request_reply p m (DeleteTable name) = (_, refl)
+request_reply p m (UpdateTable name mask retention) = (_, refl)
+request_reply p m (ModifyColumnFamilies name changes) = (_, refl)
+request_reply p m (DropRowRange name target) = (_, refl)
+request_reply p m (MutateRow name key ms) = (_, refl)
+request_reply p m (MutateRows name entries) = (_, refl)
+request_reply p m (ReadRows name filter) = read_reply p filter (table_of name p.schema)
+
+asked_reply : (p : Present) (m : ℕ) (asked : Result Request RequestRefusal) → (r : Reply) × IsAskedReply p m asked r
+asked_reply p m (Err why) = (_, refl)
+asked_reply p m (Ok request) = request_reply p m request
+
+enveloped_reply : (p : Present) (m : ℕ) (envelope : Result (Method × Data) LineRefusal) → (r : Reply) × IsEnvelopedReply p m envelope r
+enveloped_reply p m (Err why) = (_, refl)
+enveloped_reply p m (Ok x) = asked_reply p m (request_in x.0 x.1)
+
+-- each line has a reply
+pub some_reply : (p : Present) (m : ℕ) (line : List ℕ) → (r : Reply) × IsReplyTo p m line r
+some_reply p m line = enveloped_reply p m (envelope_of line)
