@@ -1,4 +1,4 @@
-"""Requests about tables and rows that are accepted or refused, each check at least once, and their replies."""
+"""Requests about tables and rows that are accepted or refused, each check that a short line can meet, and their replies."""
 import base64
 import json
 
