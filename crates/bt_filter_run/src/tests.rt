@@ -35,6 +35,8 @@ impl Reading for Untold {
     ghost same_self = { λ _. tt };
 
     ghost same_steps = { λ _ _ _ _ _. tt };
+
+    ghost same_faults = { λ _ _ _. tt };
 }
 
 // The cells left of a row, the last one first. It refuses cells that are out of order, labelled or

@@ -1,5 +1,5 @@
 //! What is read, as far as its readers see it.
-ghost use Rattle.std.specs.Prelude.{ℕ, Bool, false};
+ghost use Rattle.std.specs.Prelude.{◌≤◌, ℕ, Bool, false};
 
 /// What rows are read from: a disk, seen through what its readers may know of it.
 pub trait Reading {
@@ -23,6 +23,9 @@ pub trait Reading {
     ghost same_self: { (x : Self) → same x x };
 
     ghost same_steps: { (x y z : Self) → same x y → same y z → same x z };
+
+    // A count never falls.
+    ghost same_faults: { (x y : Self) → same x y → faults x ≤ faults y };
 }
 
 /// The reading of a source that has no disk beneath it.
@@ -45,4 +48,6 @@ impl Reading for NoReads {
     ghost same_self = { λ _. tt };
 
     ghost same_steps = { λ _ _ _ _ _. tt };
+
+    ghost same_faults = { λ _ _ _. tt };
 }
