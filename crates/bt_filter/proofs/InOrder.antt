@@ -9,12 +9,12 @@ use Rattle.std.specs.declared.cmp.Ordering.TheVariants.{Less, Equal, Greater}
 use Rattle.std.proofs.lemmas.Cmp.{nat_cmp_total, nat_list_cmp_total, on_total, then_total, back_total, upto}
 use Rattle.std.proofs.lemmas.List.Elements.{All-head, All-tail}
 use Rattle.bt_types.specs.declared.cell.Cell.{Cell}
-use Rattle.bt_types.specs.Cells.{cell_cmp, put_in_order, in_order, merge, AreOrdered, IsRow}
+use Rattle.bt_types.specs.Cells.{cell_cmp, put_in_order, in_order, merge, AreOrdered, IsRow, IsPastNone, AreInOrder}
 use Rattle.bt_pattern.specs.Patterns.{matches}
 use Rattle.bt_filter.specs.declared.filter.Filter.{Filter}
 use Rattle.bt_filter.specs.declared.filter.Filter.TheOpen.{Filter-F}
 use Rattle.bt_filter.specs.declared.filter.Filter.TheFolds.{fold-roll-Filter, ind-Filter, map-Filter}
-use Rattle.bt_filter.specs.Meaning.{Given, Gives, chain_gives, interleave_gives, predicate_out, branch_out, chosen, condition_gives, first_of_columns, is_of_column, without_value, with_label, node_gives, filter_meaning, final_cells, IsPastNone, AreInOrder}
+use Rattle.bt_filter.specs.Meaning.{Given, Gives, chain_gives, interleave_gives, predicate_out, branch_out, chosen, condition_gives, first_of_columns, is_of_column, without_value, with_label, node_gives, filter_meaning, final_cells}
 
 cell_total : IsTotalOrder cell_cmp
 cell_total =

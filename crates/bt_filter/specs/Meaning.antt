@@ -1,9 +1,7 @@
 -- What filters give of a row (google.bigtable.v2.RowFilter).
-use Rattle.std.specs.Prelude.{◌≡◌, ℕ, ◌&&◌, Bool, false, nat_lt, bytes_eq, List, [], ◌∷◌, ◌++◌, length, map, filter, take, drop, Option, Some, None, if◌then◌else◌}
-use Rattle.std.specs.List.{AllByRecursion}
-use Rattle.std.specs.Ordering.{is_gt}
+use Rattle.std.specs.Prelude.{ℕ, ◌&&◌, Bool, nat_lt, bytes_eq, List, [], ◌∷◌, ◌++◌, length, map, filter, take, drop, Option, Some, None, if◌then◌else◌}
 use Rattle.bt_types.specs.declared.cell.Cell.{Cell}
-use Rattle.bt_types.specs.Cells.{cell_cmp, merge}
+use Rattle.bt_types.specs.Cells.{merge}
 use Rattle.bt_range.specs.Bounds.{is_in_bytes, is_in_time}
 use Rattle.bt_pattern.specs.Patterns.{matches}
 use Rattle.bt_filter.specs.declared.filter.Filter.{Filter}
@@ -105,12 +103,3 @@ filter_meaning = fold-Filter Gives node_gives
 -- the cells of the answer
 abbrev pub final_cells : Filter → List ℕ → List Cell → List Cell
 final_cells f key cells = merge (filter_meaning f key cells).out (filter_meaning f key cells).sunk
-
--- the cell stands past none of these
-abbrev pub IsPastNone : Cell → List Cell → Type 0
-IsPastNone c cs = AllByRecursion (λ d. is_gt (cell_cmp c d) ≡ false) cs
-
--- no cell stands past a later one; several may have one key
-abbrev pub AreInOrder : List Cell → Type 0
-AreInOrder [] = Unit {0}
-AreInOrder (c ∷ cs) = IsPastNone c cs × AreInOrder cs

@@ -12,7 +12,8 @@ use Rattle.std.proofs.lemmas.Map.Text.{is_eq-slice_cmp}
 use Rattle.std.proofs.lemmas.List.{append-nil, length-set, take_all, take_more, take-set-le, drop_more, drop-set-lt}
 use Rattle.std.proofs.lemmas.List.Elements.{filter-append}
 use Rattle.bt_types.specs.declared.cell.Cell.{Cell}
-use Rattle.bt_filter.specs.Meaning.{is_of_column, first_of_columns, IsPastNone, AreInOrder}
+use Rattle.bt_types.specs.Cells.{IsPastNone, AreInOrder}
+use Rattle.bt_filter.specs.Meaning.{is_of_column, first_of_columns}
 use Rattle.bt_filter_run.specs.Columns.{continues}
 use Rattle.bt_filter_run.proofs.Merges.{StandBy, is_past, in_order_front}
 

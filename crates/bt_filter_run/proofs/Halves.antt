@@ -1,9 +1,9 @@
 -- What chains and interleaves give, by halves.
 use Rattle.std.proofs.Common.{◌≡◌, ℕ, List, [], ◌∷◌, ◌++◌, map, sym, ap, ◌∙◌}
 use Rattle.bt_types.specs.declared.cell.Cell.{Cell}
-use Rattle.bt_types.specs.Cells.{merge}
+use Rattle.bt_types.specs.Cells.{merge, AreInOrder}
 use Rattle.bt_filter.specs.declared.filter.Filter.{Filter}
-use Rattle.bt_filter.specs.Meaning.{Given, Gives, after_sunk, beside, chain_gives, interleave_gives, filter_meaning, AreInOrder}
+use Rattle.bt_filter.specs.Meaning.{Given, Gives, after_sunk, beside, chain_gives, interleave_gives, filter_meaning}
 use Rattle.bt_filter.proofs.InOrder.{gives_in_order, merge_in_order}
 use Rattle.bt_filter_run.proofs.Merges.{in_order_same, merge_with_none, merge_assoc}
 

@@ -8,8 +8,7 @@ use Rattle.std.specs.declared.cmp.Ordering.{Ordering}
 use Rattle.std.specs.declared.cmp.Ordering.TheVariants.{Less, Equal, Greater}
 use Rattle.std.proofs.lemmas.Cmp.{nat_cmp_total, nat_list_cmp_total, on_total, then_total, back_total, tied_itself, upto}
 use Rattle.bt_types.specs.declared.cell.Cell.{Cell}
-use Rattle.bt_types.specs.Cells.{cell_cmp, put_in_order, in_order, merge}
-use Rattle.bt_filter.specs.Meaning.{IsPastNone, AreInOrder}
+use Rattle.bt_types.specs.Cells.{cell_cmp, put_in_order, in_order, merge, IsPastNone, AreInOrder}
 use Rattle.bt_filter.proofs.InOrder.{merge_in_order}
 
 pub cell_total : IsTotalOrder cell_cmp

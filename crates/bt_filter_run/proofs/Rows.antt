@@ -5,9 +5,8 @@ use Rattle.std.specs.Ordering.{is_gt}
 use Rattle.std.specs.declared.cmp.Ordering.TheVariants.{Less}
 use Rattle.std.proofs.lemmas.Cmp.{upto}
 use Rattle.bt_types.specs.declared.cell.Cell.{Cell}
-use Rattle.bt_types.specs.Cells.{cell_cmp}
+use Rattle.bt_types.specs.Cells.{cell_cmp, IsPastNone, AreInOrder}
 use Rattle.bt_types.specs.Sources.{GivesCell, Left}
-use Rattle.bt_filter.specs.Meaning.{IsPastNone, AreInOrder}
 use Rattle.bt_filter_run.proofs.Merges.{StandBy, cell_total, is_past}
 
 -- the last of the cells, where there is one

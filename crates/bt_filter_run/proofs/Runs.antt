@@ -6,11 +6,11 @@ use Rattle.std.specs.Vec.{with_items}
 use Rattle.std.proofs.lemmas.List.{length-map, map-append}
 use Rattle.std.proofs.Math.Seq.{take-append_seam}
 use Rattle.bt_types.specs.declared.cell.Cell.{Cell}
-use Rattle.bt_types.specs.Cells.{merge}
+use Rattle.bt_types.specs.Cells.{merge, AreInOrder}
 use Rattle.bt_filter.specs.declared.filter.Filter.{Filter}
 use Rattle.bt_filter.specs.declared.filter.Filter.TheVariants as filter
 use Rattle.bt_filter.specs.Meaning as meant
-use Rattle.bt_filter.specs.Meaning.{Gives, AreInOrder, filter_meaning, chosen, only, predicate_out, branch_out, after_sunk, beside}
+use Rattle.bt_filter.specs.Meaning.{Gives, filter_meaning, chosen, only, predicate_out, branch_out, after_sunk, beside}
 use Rattle.bt_filter.proofs.InOrder.{gives_in_order}
 use Rattle.bt_filter_run.specs.declared.given.Given.{Given}
 use Rattle.bt_filter_run.specs.declared.leaf.Leaf.{Leaf}

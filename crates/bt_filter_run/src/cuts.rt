@@ -1,7 +1,7 @@
 //! Cells that are counted off.
 ghost use Rattle.std.specs.Prelude.{◌≡◌, IfOk, [], drop, take};
 ghost use Rattle.bt_filter.specs.Meaning as spec;
-ghost use Rattle.bt_filter.specs.Meaning.{AreInOrder};
+ghost use Rattle.bt_types.specs.Cells.{AreInOrder};
 ghost use Rattle.bt_filter_run.specs.Columns.{continues};
 
 use bt_base::OutOfMemory;

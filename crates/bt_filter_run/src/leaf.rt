@@ -1,6 +1,6 @@
 //! Filters without parts.
 ghost use Rattle.std.specs.Prelude.{◌≡◌, IfOk};
-ghost use Rattle.bt_filter.specs.Meaning.{AreInOrder};
+ghost use Rattle.bt_types.specs.Cells.{AreInOrder};
 ghost use Rattle.bt_filter_run.specs.Steps.{IsGiven, leaf_gives};
 
 use crate::cell_test::CellTest;

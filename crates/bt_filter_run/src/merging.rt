@@ -1,7 +1,6 @@
 //! Cells of two lists in one.
 ghost use Rattle.std.specs.Prelude.{◌≡◌, ◌-◌, ◌++◌, IfOk, OnOk, drop, take, vec_len};
-ghost use Rattle.bt_types.specs.Cells.{merge};
-ghost use Rattle.bt_filter.specs.Meaning.{AreInOrder};
+ghost use Rattle.bt_types.specs.Cells.{merge, AreInOrder};
 
 use bt_base::OutOfMemory;
 use bt_types::{Cell, CellList, cell_order};

@@ -1,6 +1,7 @@
 //! Filters that run.
 ghost use Rattle.std.specs.Prelude.{◌≡◌, IfOk};
-ghost use Rattle.bt_filter.specs.Meaning.{AreInOrder, final_cells};
+ghost use Rattle.bt_types.specs.Cells.{AreInOrder};
+ghost use Rattle.bt_filter.specs.Meaning.{final_cells};
 
 use crate::building::step_of;
 use crate::merging::merged;

@@ -1,6 +1,7 @@
 //! Rows that are filtered.
 ghost use Rattle.std.specs.Prelude.{◌≡◌, ◌≤◌, IfOk, OnOk};
-ghost use Rattle.bt_filter.specs.Meaning.{AreInOrder, final_cells};
+ghost use Rattle.bt_types.specs.Cells.{AreInOrder};
+ghost use Rattle.bt_filter.specs.Meaning.{final_cells};
 
 use crate::Node;
 use bt_types::{CellList, Reading, RowKey, Rows, SourceFault};

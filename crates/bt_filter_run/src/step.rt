@@ -1,6 +1,7 @@
 //! Filters as they run.
 ghost use Rattle.std.specs.Prelude.{◌≡◌, IfOk, map, option_map};
-ghost use Rattle.bt_filter.specs.Meaning.{AreInOrder, branch_out, chain_gives, filter_meaning, interleave_gives, only, predicate_out};
+ghost use Rattle.bt_types.specs.Cells.{AreInOrder};
+ghost use Rattle.bt_filter.specs.Meaning.{branch_out, chain_gives, filter_meaning, interleave_gives, only, predicate_out};
 ghost use Rattle.bt_filter_run.specs.Steps.{IsGiven, filter_of, is_any, part_of};
 
 use crate::given::Given;

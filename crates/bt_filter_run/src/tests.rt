@@ -36,7 +36,9 @@ impl Reading for Untold {
 
     ghost same_steps = { λ _ _ _ _ _. tt };
 
-    ghost same_faults = { λ _ _ _. tt };
+    ghost use Rattle.std.proofs.Math.Nat.{le_refl};
+
+    ghost same_faults = { λ _ _ _. le_refl 0 };
 }
 
 // The cells left of a row, the last one first. It refuses cells that are out of order, labelled or

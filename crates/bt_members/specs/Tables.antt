@@ -55,9 +55,56 @@ read_rows_members =
     ∷ denied (codes "materializedViewName")
     ∷ enum_of kinds.STATS_VIEWS kinds.SUPPORTED_STATS_VIEWS (codes "requestStatsView")
     ∷ denied (codes "reversed")
-    ∷ denied (codes "rows")
-    ∷ denied (codes "rowsLimit")
+    ∷ one (codes "rows") (Of kinds.ROW_SET)
+    ∷ one (codes "rowsLimit") Int64
     ∷ one (codes "tableName") Text
+    ∷ []
+
+-- google.bigtable.v2.RowSet
+abbrev pub row_set_members : List Field
+row_set_members =
+    list (codes "rowKeys") Bytes
+    ∷ list (codes "rowRanges") (Of kinds.ROW_RANGE)
+    ∷ []
+
+-- google.bigtable.v2.RowRange: its starts are one oneof, and its ends another
+abbrev pub row_range_members : List Field
+row_range_members =
+    choice_of 2 (codes "endKeyClosed") Bytes
+    ∷ choice_of 2 (codes "endKeyOpen") Bytes
+    ∷ choice_of 1 (codes "startKeyClosed") Bytes
+    ∷ choice_of 1 (codes "startKeyOpen") Bytes
+    ∷ []
+
+-- google.bigtable.v2.CheckAndMutateRowRequest
+abbrev pub check_and_mutate_row_members : List Field
+check_and_mutate_row_members =
+    one (codes "appProfileId") Text
+    ∷ denied (codes "authorizedViewName")
+    ∷ list (codes "falseMutations") (Of kinds.MUTATION)
+    ∷ one (codes "predicateFilter") (Of kinds.ROW_FILTER)
+    ∷ one (codes "rowKey") Bytes
+    ∷ one (codes "tableName") Text
+    ∷ list (codes "trueMutations") (Of kinds.MUTATION)
+    ∷ []
+
+-- google.bigtable.v2.ReadModifyWriteRowRequest
+abbrev pub read_modify_write_row_members : List Field
+read_modify_write_row_members =
+    one (codes "appProfileId") Text
+    ∷ denied (codes "authorizedViewName")
+    ∷ one (codes "rowKey") Bytes
+    ∷ list (codes "rules") (Of kinds.READ_MODIFY_WRITE_RULE)
+    ∷ one (codes "tableName") Text
+    ∷ []
+
+-- google.bigtable.v2.ReadModifyWriteRule: what it does is one oneof
+abbrev pub read_modify_write_rule_members : List Field
+read_modify_write_rule_members =
+    choice_of 1 (codes "appendValue") Bytes
+    ∷ one (codes "columnQualifier") Bytes
+    ∷ one (codes "familyName") Text
+    ∷ choice_of 1 (codes "incrementAmount") Int64
     ∷ []
 
 -- google.bigtable.v2.MutateRowRequest
@@ -277,6 +324,16 @@ filter_members_of m =
     else if m == kinds.VALUE_RANGE then value_range_members
     else []
 
+-- of sets of rows, and of the calls that read a row before they change it
+abbrev pub call_members_of : ℕ → List Field
+call_members_of m =
+    if m == kinds.ROW_SET then row_set_members
+    else if m == kinds.ROW_RANGE then row_range_members
+    else if m == kinds.CHECK_AND_MUTATE_ROW then check_and_mutate_row_members
+    else if m == kinds.READ_MODIFY_WRITE_ROW then read_modify_write_row_members
+    else if m == kinds.READ_MODIFY_WRITE_RULE then read_modify_write_rule_members
+    else filter_members_of m
+
 -- of google.bigtable.v2
 abbrev pub data_members_of : ℕ → List Field
 data_members_of m =
@@ -290,7 +347,7 @@ data_members_of m =
     else if m == kinds.TIMESTAMP_RANGE then timestamp_range_members
     else if m == kinds.DELETE_FROM_FAMILY then delete_from_family_members
     else if m == kinds.DELETE_FROM_ROW then delete_from_row_members
-    else filter_members_of m
+    else call_members_of m
 
 -- of google.bigtable.admin.v2, or else of google.bigtable.v2
 abbrev pub members_of : ℕ → List Field

@@ -62,6 +62,16 @@ pub const COLUMN_RANGE: u8 = 27;
 
 pub const VALUE_RANGE: u8 = 28;
 
+pub const ROW_SET: u8 = 29;
+
+pub const ROW_RANGE: u8 = 30;
+
+pub const CHECK_AND_MUTATE_ROW: u8 = 31;
+
+pub const READ_MODIFY_WRITE_ROW: u8 = 32;
+
+pub const READ_MODIFY_WRITE_RULE: u8 = 33;
+
 /// `google.bigtable.admin.v2.Table.TimestampGranularity`.
 pub const GRANULARITIES: u8 = 0;
 

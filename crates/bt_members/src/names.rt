@@ -3,6 +3,8 @@ use bt_walk::Name;
 
 pub const ADD_TO_CELL: Name = Name("addToCell", "add_to_cell");
 
+pub const APPEND_VALUE: Name = Name("appendValue", "append_value");
+
 pub const APPLY_LABEL_TRANSFORMER: Name = Name("applyLabelTransformer", "apply_label_transformer");
 
 pub const APP_PROFILE_ID: Name = Name("appProfileId", "app_profile_id");
@@ -64,6 +66,10 @@ pub const DELETION_PROTECTION: Name = Name("deletionProtection", "deletion_prote
 
 pub const DROP: Name = Name("drop", "drop");
 
+pub const END_KEY_CLOSED: Name = Name("endKeyClosed", "end_key_closed");
+
+pub const END_KEY_OPEN: Name = Name("endKeyOpen", "end_key_open");
+
 pub const END_QUALIFIER_CLOSED: Name = Name("endQualifierClosed", "end_qualifier_closed");
 
 pub const END_QUALIFIER_OPEN: Name = Name("endQualifierOpen", "end_qualifier_open");
@@ -77,6 +83,8 @@ pub const END_VALUE_OPEN: Name = Name("endValueOpen", "end_value_open");
 pub const ENTRIES: Name = Name("entries", "entries");
 
 pub const FALSE_FILTER: Name = Name("falseFilter", "false_filter");
+
+pub const FALSE_MUTATIONS: Name = Name("falseMutations", "false_mutations");
 
 pub const FAMILY_NAME: Name = Name("familyName", "family_name");
 
@@ -98,6 +106,8 @@ pub const ID: Name = Name("id", "id");
 pub const IDEMPOTENCY: Name = Name("idempotency", "idempotency");
 
 pub const IGNORE_WARNINGS: Name = Name("ignoreWarnings", "ignore_warnings");
+
+pub const INCREMENT_AMOUNT: Name = Name("incrementAmount", "increment_amount");
 
 pub const INITIAL_SPLITS: Name = Name("initialSplits", "initial_splits");
 
@@ -145,11 +155,15 @@ pub const ROWS_LIMIT: Name = Name("rowsLimit", "rows_limit");
 
 pub const ROW_KEY: Name = Name("rowKey", "row_key");
 
+pub const ROW_KEYS: Name = Name("rowKeys", "row_keys");
+
 pub const ROW_KEY_PREFIX: Name = Name("rowKeyPrefix", "row_key_prefix");
 
 pub const ROW_KEY_REGEX_FILTER: Name = Name("rowKeyRegexFilter", "row_key_regex_filter");
 
 pub const ROW_KEY_SCHEMA: Name = Name("rowKeySchema", "row_key_schema");
+
+pub const ROW_RANGES: Name = Name("rowRanges", "row_ranges");
 
 pub const ROW_SAMPLE_FILTER: Name = Name("rowSampleFilter", "row_sample_filter");
 
@@ -158,6 +172,10 @@ pub const RULES: Name = Name("rules", "rules");
 pub const SET_CELL: Name = Name("setCell", "set_cell");
 
 pub const SINK: Name = Name("sink", "sink");
+
+pub const START_KEY_CLOSED: Name = Name("startKeyClosed", "start_key_closed");
+
+pub const START_KEY_OPEN: Name = Name("startKeyOpen", "start_key_open");
 
 pub const START_QUALIFIER_CLOSED: Name = Name("startQualifierClosed", "start_qualifier_closed");
 
@@ -186,6 +204,8 @@ pub const TIMESTAMP_RANGE_FILTER: Name = Name("timestampRangeFilter", "timestamp
 pub const TIME_RANGE: Name = Name("timeRange", "time_range");
 
 pub const TRUE_FILTER: Name = Name("trueFilter", "true_filter");
+
+pub const TRUE_MUTATIONS: Name = Name("trueMutations", "true_mutations");
 
 pub const UNION: Name = Name("union", "union");
 

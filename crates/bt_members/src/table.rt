@@ -2,7 +2,7 @@
 //! not supported.
 ghost use Rattle.std.specs.Prelude.{◌≡◌, map};
 ghost use Rattle.bt_walk.specs.Shapes.{seen};
-ghost use Rattle.bt_members.specs.Tables.{data_members_of, filter_members_of};
+ghost use Rattle.bt_members.specs.Tables.{call_members_of, data_members_of, filter_members_of};
 
 use crate::{kinds, names};
 use bt_walk::{Many, Member, Schema, Shape, Support};
@@ -63,6 +63,20 @@ fn data_members(message: u8) -> &'static [Member]
         kinds::TIMESTAMP_RANGE => &TIMESTAMP_RANGE,
         kinds::DELETE_FROM_FAMILY => &DELETE_FROM_FAMILY,
         kinds::DELETE_FROM_ROW => &[],
+        _ => call_members(message),
+    }
+}
+
+// The messages of sets of rows, and of the calls that read a row before they change it.
+fn call_members(message: u8) -> &'static [Member]
+    ensures { map seen result.now ≡ call_members_of message }
+{
+    match message {
+        kinds::ROW_SET => &ROW_SET,
+        kinds::ROW_RANGE => &ROW_RANGE,
+        kinds::CHECK_AND_MUTATE_ROW => &CHECK_AND_MUTATE_ROW,
+        kinds::READ_MODIFY_WRITE_ROW => &READ_MODIFY_WRITE_ROW,
+        kinds::READ_MODIFY_WRITE_RULE => &READ_MODIFY_WRITE_RULE,
         _ => filter_members(message),
     }
 }
@@ -166,9 +180,46 @@ static READ_ROWS: [Member; 9] = [
         Support::Only(kinds::SUPPORTED_STATS_VIEWS)
     ),
     unsupported!(0, REVERSED),
-    unsupported!(0, ROWS),
-    unsupported!(0, ROWS_LIMIT),
+    one!(ROWS, Shape::Of(kinds::ROW_SET)),
+    one!(ROWS_LIMIT, Shape::Int64),
     one!(TABLE_NAME, Shape::Text),
+];
+
+static ROW_SET: [Member; 2] = [
+    list!(ROW_KEYS, Shape::Bytes),
+    list!(ROW_RANGES, Shape::Of(kinds::ROW_RANGE)),
+];
+
+static ROW_RANGE: [Member; 4] = [
+    choice!(2, END_KEY_CLOSED, Shape::Bytes),
+    choice!(2, END_KEY_OPEN, Shape::Bytes),
+    choice!(1, START_KEY_CLOSED, Shape::Bytes),
+    choice!(1, START_KEY_OPEN, Shape::Bytes),
+];
+
+static CHECK_AND_MUTATE_ROW: [Member; 7] = [
+    one!(APP_PROFILE_ID, Shape::Text),
+    unsupported!(0, AUTHORIZED_VIEW_NAME),
+    list!(FALSE_MUTATIONS, Shape::Of(kinds::MUTATION)),
+    one!(PREDICATE_FILTER, Shape::Of(kinds::ROW_FILTER)),
+    one!(ROW_KEY, Shape::Bytes),
+    one!(TABLE_NAME, Shape::Text),
+    list!(TRUE_MUTATIONS, Shape::Of(kinds::MUTATION)),
+];
+
+static READ_MODIFY_WRITE_ROW: [Member; 5] = [
+    one!(APP_PROFILE_ID, Shape::Text),
+    unsupported!(0, AUTHORIZED_VIEW_NAME),
+    one!(ROW_KEY, Shape::Bytes),
+    list!(RULES, Shape::Of(kinds::READ_MODIFY_WRITE_RULE)),
+    one!(TABLE_NAME, Shape::Text),
+];
+
+static READ_MODIFY_WRITE_RULE: [Member; 4] = [
+    choice!(1, APPEND_VALUE, Shape::Bytes),
+    one!(COLUMN_QUALIFIER, Shape::Bytes),
+    one!(FAMILY_NAME, Shape::Text),
+    choice!(1, INCREMENT_AMOUNT, Shape::Int64),
 ];
 
 static MUTATE_ROW: [Member; 6] = [

@@ -1,6 +1,7 @@
 -- Cells, their order, and rows of them.
-use Rattle.std.specs.Prelude.{◌≡◌, ℕ, List, [], ◌∷◌, ◌++◌, None, All}
-use Rattle.std.specs.Ordering.{nat_cmp, ordering_then, match_ordering}
+use Rattle.std.specs.Prelude.{◌≡◌, ◌≤◌, ℕ, false, List, [], ◌∷◌, ◌++◌, length, None, All}
+use Rattle.std.specs.List.{AllByRecursion}
+use Rattle.std.specs.Ordering.{nat_cmp, ordering_then, match_ordering, is_gt}
 use Rattle.std.specs.Cmp.Lexicographic.{slice_cmp}
 use Rattle.std.specs.declared.cmp.Ordering.{Ordering}
 use Rattle.std.specs.declared.cmp.Ordering.TheVariants.{Less}
@@ -32,6 +33,19 @@ merge cs ds = in_order (cs ++ ds)
 abbrev pub AreOrdered : List Cell → Type 0
 AreOrdered [] = Unit {0}
 AreOrdered (c ∷ cs) = All (λ d. cell_cmp c d ≡ Less) cs × AreOrdered cs
+
+-- the cell stands past none of these
+abbrev pub IsPastNone : Cell → List Cell → Type 0
+IsPastNone c cs = AllByRecursion (λ d. is_gt (cell_cmp c d) ≡ false) cs
+
+-- no cell stands past a later one; several may have one key
+abbrev pub AreInOrder : List Cell → Type 0
+AreInOrder [] = Unit {0}
+AreInOrder (c ∷ cs) = IsPastNone c cs × AreInOrder cs
+
+-- no value has more than 4,194,304 bytes
+abbrev pub AreShort : List Cell → Type 0
+AreShort cs = All (λ c. length c.value ≤ 4194304) cs
 
 -- no cell has a label
 abbrev pub AreUnlabelled : List Cell → Type 0

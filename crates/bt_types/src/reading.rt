@@ -49,5 +49,7 @@ impl Reading for NoReads {
 
     ghost same_steps = { λ _ _ _ _ _. tt };
 
-    ghost same_faults = { λ _ _ _. tt };
+    ghost use Rattle.std.proofs.Math.Nat.{le_refl};
+
+    ghost same_faults = { λ _ _ _. le_refl 0 };
 }

@@ -1,6 +1,6 @@
 use Rattle.std.proofs.Common.{◌≡◌, ◌<◌, ◌∙◌, length, map, ap, sym, subst, arith, rules, true, false}
 use Rattle.std.proofs.lemmas.Bool.Decides.{nat_tests}
-use Rattle.bt_filter.specs.Meaning.{AreInOrder}
+use Rattle.bt_types.specs.Cells.{AreInOrder}
 use Rattle.std.specs.Vec.{with_items}
 use Rattle.bt_filter_run.specs.Steps.{filter_of}
 use Rattle.bt_filter_run.proofs.Weights.{total_weight, front_lighter, back_lighter}
