@@ -6,3 +6,5 @@ pub mod Weights
 pub mod Halves
 pub mod Columns
 pub mod Runs
+pub mod Short
+pub mod Causes
