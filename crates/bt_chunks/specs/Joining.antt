@@ -1,12 +1,11 @@
 -- The rows that a client puts together from chunks (google.bigtable.v2.ReadRowsResponse.CellChunk).
-use Rattle.std.specs.Prelude.{◌≡◌, ℕ, ◌+◌, ◌==◌, ◌&&◌, ◌||◌, Bool, true, false, not, nat_lt, List, [], ◌∷◌, ◌++◌, length, map, bytes_eq, Option, Some, None, option_map, option_and_then, is_none, ℤ, pos, negsuc, if◌then◌else◌, IsTrue}
+use Rattle.std.specs.Prelude.{◌≡◌, ℕ, ◌+◌, ◌==◌, ◌&&◌, ◌||◌, Bool, true, false, not, nat_lt, List, [], ◌∷◌, ◌++◌, length, map, Option, Some, None, option_map, option_and_then, is_none, ℤ, pos, negsuc, if◌then◌else◌, IsTrue}
 use Rattle.std.specs.List.{AllByRecursion}
-use Rattle.std.specs.Option.{option_or}
 use Rattle.std.specs.List.Sorted.{IsStrictlySortedBy}
 use Rattle.std.specs.Ordering.{nat_cmp, is_gt, is_lt}
 use Rattle.std.specs.Cmp.Lexicographic.{slice_cmp}
 use Rattle.bt_types.specs.Cells.{AreInOrder, cell_cmp}
-use Rattle.bt_types.specs.Grammar.{is_family_name, is_label, is_qualifier, is_row_key}
+use Rattle.bt_types.specs.Grammar.{is_family_name, is_label, is_qualifier, is_row_key, lawful}
 use Rattle.bt_types.specs.Time.{is_micros, micros_of}
 use Rattle.bt_types.specs.declared.cell.Cell.{Cell}
 use Rattle.bt_types.specs.declared.found_row.FoundRow.{FoundRow}
@@ -45,8 +44,10 @@ abbrev pub is_lawful_or_none : (List ℕ → Bool) → Option (List ℕ) → Boo
 is_lawful_or_none p None = true
 is_lawful_or_none p (Some b) = p b
 
-abbrev pub has_lawful_names : Chunk → Bool
-has_lawful_names c = is_lawful_or_none is_family_name c.family && is_lawful_or_none is_qualifier c.qualifier && is_lawful_or_none is_label c.label
+-- the name that the chunk gives, where it is lawful, or the one of the cell before where it gives none
+abbrev pub named : (List ℕ → Bool) → Option (List ℕ) → Option (List ℕ) → Option (List ℕ)
+named p (Some b) before = lawful p b
+named p None before = before
 
 -- it has the whole value, or of a split one at least 1 byte and not all; only a whole value may end the row
 abbrev pub begins_value : Chunk → Bool
@@ -61,8 +62,8 @@ cell_of None qualifier at c = None
 -- the cell that the chunk begins, with its bytes: what it does not name is as in the cell before
 abbrev pub new_cell : Option Cell → Chunk → Option Cell
 new_cell before c =
-    if has_lawful_names c && begins_value c
-    then cell_of (option_or c.family (option_map (λ p. p.family) before)) (option_or c.qualifier (option_map (λ p. p.qualifier) before)) (micros_of c.at) c
+    if is_lawful_or_none is_label c.label && begins_value c
+    then cell_of (named is_family_name c.family (option_map (λ p. p.family) before)) (named is_qualifier c.qualifier (option_map (λ p. p.qualifier) before)) (micros_of c.at) c
     else None
 
 -- ---- the row after a chunk, where the chunk has a place
@@ -113,9 +114,13 @@ fits b c =
     if length b.cell.value + length c.value == b.size then c.size == 0
     else nat_lt (length b.cell.value + length c.value) b.size && (c.size == b.size) && not c.commit
 
+-- the cell with a further piece of its value
+abbrev pub with_piece : Begun → List ℕ → Cell
+with_piece b bytes = record b.cell { value = b.cell.value ++ bytes }
+
 -- the row with a further piece of the value that is begun
 abbrev pub row_with_piece : Part → Begun → Chunk → Option Part
-row_with_piece p b c = if is_piece c && fits b c then Some (with_cell p.key p.cells c.size (record b.cell { value = b.cell.value ++ c.value })) else None
+row_with_piece p b c = if is_piece c && fits b c then Some (with_cell p.key p.cells c.size (with_piece b c.value)) else None
 
 abbrev pub row_goes_on : Part → Option Begun → Chunk → Option Part
 row_goes_on p None c = row_with_cell p c

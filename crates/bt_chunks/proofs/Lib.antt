@@ -1,0 +1,5 @@
+pub mod Joins
+pub mod Packing
+pub mod Values
+pub mod Names
+pub mod Steps
