@@ -5,6 +5,7 @@ use Rattle.std.specs.Ordering.{nat_cmp}
 use Rattle.std.specs.List.Sorted.{IsStrictlySortedBy}
 use Rattle.std.specs.Map.{keys_of, lookup, values_of}
 use Rattle.std.specs.BTreeMap.{is_at}
+use Rattle.bt_types.specs.Grammar.{is_row_key}
 use Rattle.bt_rules.specs.declared.family.Family.{Family}
 use Rattle.bt_entry.specs.declared.entry.Entry.{Entry}
 use Rattle.bt_entry.specs.declared.entry.Entry.TheVariants.{Row, Create, Delete, Alter, Stream, Floor}
@@ -176,9 +177,14 @@ AreOrdered contents = IsStrictlySortedBy nat_cmp (keys_of contents)
 abbrev pub AreLawfulTables : Schema → Type 0
 AreLawfulTables schema = All (λ t. AreSpellableFamilies t.families × IsTrue (is_retention t.retention)) (values_of schema)
 
+-- each row has a key that a row may have
+abbrev pub AreRowKeys : Contents → Type 0
+AreRowKeys rows = All (λ k. IsTrue (is_row_key k)) (keys_of rows)
+
 -- what holds of every present
 pub record IsReached (p : Present) : Type 0 where
   pub made : AreMade p.last p.schema
   pub within : p.last ≤ greatest_sequence
   pub ordered : AreOrdered p.contents
   pub lawful : AreLawfulTables p.schema
+  pub keyed : All AreRowKeys (values_of p.contents)

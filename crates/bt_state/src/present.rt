@@ -2,7 +2,7 @@
 ghost use Rattle.std.specs.Prelude.{◌≡◌, ◌↔◌, ◌+◌, ◌<◌, ◌≤◌, [], Some, length, IfSome, IsTrue, OnOk, OnErr, option_map, unwrap_or};
 ghost use Rattle.bt_entry.specs.Grammar.{AreNumbered, AreSpellableFamilies};
 ghost use Rattle.bt_schema.specs.Schema.{table_at, table_of};
-ghost use Rattle.bt_state.specs.State.{AreLawful, AreOrdered, IsLawful, events_of, greatest_sequence, moment_used, nothing, present_after, presents_after, rows_of};
+ghost use Rattle.bt_state.specs.State.{AreLawful, AreOrdered, AreRowKeys, IsLawful, events_of, greatest_sequence, moment_used, nothing, present_after, presents_after, rows_of};
 
 use crate::batches::{
     changed_schema, deleted_tables, floor_after, forget_all, put_schema, row_changes,
@@ -90,6 +90,7 @@ impl Present {
     pub fn rows_of(&self, incarnation: u64) -> Option<&Contents>
         ensures rows { unwrap_or (option_map (λ c. c.now) result) [] ≡ rows_of incarnation self.now.contents }
         ensures ordered { AreOrdered self.now.contents }
+        ensures keyed { AreRowKeys (rows_of incarnation self.now.contents) }
     {
         self.contents.rows_of(incarnation)
     }
