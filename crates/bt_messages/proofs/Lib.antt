@@ -1,4 +1,2 @@
 pub mod NoFloats
-pub mod ShownAlike
-pub mod ChunkTexts
 pub mod LineTexts

@@ -1,10 +1,9 @@
 -- No reply has a float in it.
 use Rattle.std.proofs.Common.{◌≡◌, ℕ, List, [], ◌∷◌, Option, Some, None, Bool, true, false, ◌||◌, Ordering, Less, Equal, Greater, refl, ap, ◌∙◌, subst}
-use Rattle.std.specs.Prelude.{codes, decimal, map, not, pos, ◌+◌, ◌==◌}
+use Rattle.std.specs.Prelude.{codes, map, not, pos, ◌+◌, ◌==◌}
 use Rattle.std.specs.Fmt.{signed_decimal}
 use Rattle.std.specs.Ordering.{nat_cmp, match_ordering}
 use Rattle.std.specs.Cmp.Lexicographic.{slice_cmp}
-use Rattle.bt_types.specs.declared.cell.Cell.{Cell}
 use Rattle.bt_chunks.specs.declared.chunk.Chunk.{Chunk}
 use Rattle.bt_rules.specs.declared.family.Family.{Family}
 use Rattle.bt_rules.specs.declared.rule.Rule.{Rule}
@@ -14,7 +13,7 @@ use Rattle.bt_entry.specs.declared.table_info.TableInfo.{TableInfo}
 use Rattle.serde_json.specs.Data.{Data, array, boolean, number, string, unsigned, object, Members, no_members, member, put}
 use Rattle.serde_json.specs.View.{items_of}
 use Rattle.serde_json.specs.Written.{has_float, items_have_float, members_have_float}
-use Rattle.bt_messages.specs.Chunks.{with_time, base64, chunk_data, shown_label, is_new_family, is_new_column, is_first}
+use Rattle.bt_messages.specs.Values.{shown_label}
 use Rattle.bt_messages.specs.Lines.{is_nonempty, object_with, response_data, status_data, status_members, with_if, with_number, with_some, with_text}
 use Rattle.bt_messages.specs.Responses.{families_onto, is_nonzero, shown, shown_bytes, shown_families, shown_family, shown_node, shown_rule, shown_rules, shown_status, shown_statuses, shown_statuses_from, shown_stream, shown_table_name, shown_table_names, shown_chunk, shown_chunks, shown_name, shown_table, with_bytes, with_int64}
 use Rattle.bt_messages.specs.declared.response.EntryStatus.{EntryStatus}
@@ -49,22 +48,6 @@ with_if_plain false k d ms p q = q
 with_some_plain : {A : Type 0} (k : List ℕ) (show : A → Data) (o : Option A) (ms : Members) → ((x : A) → has_float (show x) ≡ false) → members_have_float ms ≡ false → members_have_float (with_some k show o ms) ≡ false
 with_some_plain k show None ms p q = q
 with_some_plain k show (Some x) ms p q = put_plain k (show x) ms (p x) q
-
-pub chunk_plain : (key : List ℕ) (before : Option Cell) (c : Cell) (last : Bool) → has_float (chunk_data key before c last) ≡ false
-chunk_plain key before c last =
-    let value = with_if (is_nonempty c.value) (codes "value") (string (base64 c.value)) no_members in
-    let time = with_time c value in
-    let row = with_if (is_first before) (codes "rowKey") (string (base64 key)) time in
-    let column = with_if (is_new_column before c) (codes "qualifier") (string (base64 c.qualifier)) row in
-    let labels = with_some (codes "labels") shown_label c.label column in
-    let family = with_if (is_new_family before c) (codes "familyName") (string c.family) labels in
-    let p0 : members_have_float value ≡ false = with_if_plain (is_nonempty c.value) (codes "value") (string (base64 c.value)) no_members refl refl in
-    let p1 : members_have_float time ≡ false = with_if_plain (not (c.at == 0)) (codes "timestampMicros") (string (decimal c.at)) value refl p0 in
-    let p2 : members_have_float row ≡ false = with_if_plain (is_first before) (codes "rowKey") (string (base64 key)) time refl p1 in
-    let p3 : members_have_float column ≡ false = with_if_plain (is_new_column before c) (codes "qualifier") (string (base64 c.qualifier)) row refl p2 in
-    let p4 : members_have_float labels ≡ false = with_some_plain (codes "labels") shown_label c.label column (λ t. refl) p3 in
-    let p5 : members_have_float family ≡ false = with_if_plain (is_new_family before c) (codes "familyName") (string c.family) labels refl p4 in
-    with_if_plain last (codes "commitRow") (boolean true) family refl p5
 
 members_plain : (code : ℕ) (text : List ℕ) → has_float (status_members code text) ≡ false
 members_plain code text =

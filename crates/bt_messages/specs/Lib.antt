@@ -1,4 +1,4 @@
 pub mod Lines
 pub mod Refusals
-pub mod Chunks
+pub mod Values
 pub mod Responses

@@ -3,7 +3,7 @@ use Rattle.std.specs.Prelude.{ℕ, List, ◌++◌, codes}
 use Rattle.std.specs.Str.Lossy.{utf8_lossy}
 use Rattle.bt_messages.specs.Lines.{line_of, status_data}
 use Rattle.bt_messages.specs.declared.refusal.Refusal.{Refusal}
-use Rattle.bt_messages.specs.declared.refusal.Refusal.TheVariants.{NotJson, NoEntries, BadTimeRange, BadGcRule, BadRetention, BadPageToken, NoModifications, ModificationWithoutKind, FlagNotTrue, FamilyExists, BadUpdateMask, NoTarget, FilterTooDeep, TooManyFilters, FilterTooLarge, TooManyPatterns, SinkUnderCondition, BadLabel, TwoLabels, NegativeCount, BadPattern, PatternTooLarge, BadEnvelope, UnknownMethod, NotBuilt, BadName, TableNotFound, TableExists, BadRowKey, NoMutations, TooManyMutations, MutationWithoutKind, FamilyNotFound, QualifierTooLong, BadTimestamp, ValueTooLarge, BadFamilyName, TooManyFamilies, TooManyTables, ChangeTooLarge, OutOfMemory, DiskFailed, LineTooLong, ConnectionTooLong, LineNotEnded}
+use Rattle.bt_messages.specs.declared.refusal.Refusal.TheVariants.{NotJson, NoEntries, BadTimeRange, BadGcRule, BadRetention, BadPageToken, NoModifications, ModificationWithoutKind, FlagNotTrue, FamilyExists, BadUpdateMask, NoTarget, FilterTooDeep, TooManyFilters, FilterTooLarge, TooManyPatterns, SinkUnderCondition, BadLabel, TwoLabels, NegativeCount, NegativeRowsLimit, BadPattern, PatternTooLarge, BadEnvelope, UnknownMethod, NotBuilt, BadName, TableNotFound, TableExists, BadRowKey, NoMutations, TooManyMutations, MutationWithoutKind, FamilyNotFound, QualifierTooLong, BadTimestamp, ValueTooLarge, BadFamilyName, TooManyFamilies, TooManyTables, ChangeTooLarge, OutOfMemory, DiskFailed, LineTooLong, ConnectionTooLong, LineNotEnded}
 
 -- the code of a refusal
 abbrev pub refusal_code : Refusal → ℕ
@@ -42,6 +42,7 @@ refusal_code SinkUnderCondition = 3
 refusal_code BadLabel = 3
 refusal_code TwoLabels = 3
 refusal_code NegativeCount = 3
+refusal_code NegativeRowsLimit = 3
 refusal_code BadPattern = 3
 refusal_code PatternTooLarge = 3
 refusal_code TooManyFamilies = 9
@@ -90,6 +91,7 @@ refusal_text SinkUnderCondition = codes "sink under condition"
 refusal_text BadLabel = codes "bad label"
 refusal_text TwoLabels = codes "two labels in a chain"
 refusal_text NegativeCount = codes "negative count"
+refusal_text NegativeRowsLimit = codes "negative rowsLimit"
 refusal_text BadPattern = codes "bad pattern"
 refusal_text PatternTooLarge = codes "pattern too large"
 refusal_text TooManyFamilies = codes "too many families"

@@ -1,9 +1,7 @@
 -- What a response shows, by the proto3 JSON mapping: members that are 0, empty or false are left out.
-use Rattle.std.specs.Prelude.{◌≡◌, ℕ, ◌+◌, ◌==◌, Bool, true, not, List, [], ◌∷◌, map, codes, Option, Some, None, ℤ, pos, negsuc, if◌then◌else◌}
+use Rattle.std.specs.Prelude.{ℕ, ◌+◌, ◌==◌, Bool, true, not, List, [], ◌∷◌, map, codes, ℤ, pos, negsuc}
 use Rattle.std.specs.Fmt.{signed_decimal}
 use Rattle.std.specs.Str.Lossy.{utf8_lossy}
-use Rattle.bt_types.specs.Grammar.{is_family_name, is_row_key}
-use Rattle.bt_types.specs.declared.cell.Cell.{Cell}
 use Rattle.bt_chunks.specs.declared.chunk.Chunk.{Chunk}
 use Rattle.bt_rules.specs.declared.family.Family.{Family}
 use Rattle.bt_rules.specs.declared.rule.Rule.{Rule}
@@ -13,7 +11,7 @@ use Rattle.bt_text.specs.Printed.{duration_printed}
 use Rattle.bt_entry.specs.declared.table_info.TableInfo.{TableInfo}
 use Rattle.serde_json.specs.Data.{Data, boolean, number, unsigned, string, array, object, item, no_items, Members, no_members, put}
 use Rattle.serde_json.specs.View.{items_of}
-use Rattle.bt_messages.specs.Chunks.{base64, chunk_data, shown_label, is_first, is_new_column, is_new_family}
+use Rattle.bt_messages.specs.Values.{base64, shown_label}
 use Rattle.bt_messages.specs.Lines.{is_nonempty, object_with, status_members, with_if, with_number, with_some}
 use Rattle.bt_messages.specs.declared.response.EntryStatus.{EntryStatus}
 use Rattle.bt_messages.specs.declared.response.Response.{Response}
@@ -132,25 +130,3 @@ shown DropRowRange = object no_members
 shown MutateRow = object no_members
 shown (MutateRows ss) = shown_statuses ss
 shown (ReadRows cs) = shown_chunks cs
-
--- x, where it is asked for
-abbrev pub where_asked : {A : Type 0} → Bool → A → Option A
-where_asked asked x = if asked then Some x else None
-
--- the chunk of a cell in one piece, after the cell before it in the row
-abbrev pub cell_chunk : List ℕ → Option Cell → Cell → Bool → Chunk
-cell_chunk key before c last = record {
-  key = if is_first before then key else [];
-  family = where_asked (is_new_family before c) c.family;
-  qualifier = where_asked (is_new_column before c) c.qualifier;
-  at = pos c.at;
-  label = c.label;
-  value = c.value;
-  size = 0;
-  commit = last;
-}
-
--- of a lawful cell, that chunk is shown as the reply of a read shows the cell
-abbrev pub CellsAreShownAlike : Type 0
-CellsAreShownAlike = (key : List ℕ) (before : Option Cell) (c : Cell) (last : Bool)
-    → is_row_key key ≡ true → is_family_name c.family ≡ true → shown_chunk (cell_chunk key before c last) ≡ chunk_data key before c last

@@ -2,7 +2,7 @@
 ghost use Rattle.std.specs.Prelude.{◌≡◌, IfOk, OnOk, codes, map};
 ghost use Rattle.serde_json.specs.View.{view, members_view};
 ghost use Rattle.bt_messages.specs.Lines.{is_nonempty, with_some};
-ghost use Rattle.bt_messages.specs.Chunks.{shown_label};
+ghost use Rattle.bt_messages.specs.Values.{shown_label};
 ghost use Rattle.bt_messages.specs.Responses.{shown_bytes, shown_chunk, shown_chunks, shown_name, with_bytes};
 
 use crate::members::{put_bytes, put_int64, put_number, put_true};
@@ -71,7 +71,7 @@ fn has_bytes(bytes: &Blob) -> bool
 }
 
 // The wrapper is printed also where the qualifier is empty.
-#[tactic(auto, unfolding(crate::specs::Chunks::base64))]
+#[tactic(auto, unfolding(crate::specs::Values::base64))]
 fn put_qualifier(
     alloc: Global,
     members: &mut Map<String, Value>,
@@ -87,7 +87,7 @@ fn put_qualifier(
     Ok(())
 }
 
-pub(crate) fn put_label(
+fn put_label(
     alloc: Global,
     members: &mut Map<String, Value>,
     label: &Option<Label>,

@@ -19,8 +19,9 @@ pub fn empty_lines() -> &'static [u8]
     b"{\"response\":{}}\n{\"status\":{}}\n"
 }
 
+/// The status line of a request that was served, with its line feed. It takes no memory.
 #[tactic(auto, unfolding(crate::proofs::LineTexts::line_on_literals))]
-pub(crate) fn ok_line() -> &'static [u8]
+pub fn ok_line() -> &'static [u8]
     ensures { result.now ≡ ok_line }
 {
     b"{\"status\":{}}\n"
@@ -32,8 +33,7 @@ pub(crate) fn line(alloc: Global, value: &Value) -> Result<Vec<u8>, OutOfMemory>
     requires { has_float (view value.now) ≡ false }
     ensures { IfOk result (λ out. out.items ≡ line_of (view value.now)) }
 {
-    let text = value.to_string(alloc)?;
-    let mut out = Vec::from_slice(alloc, text.as_bytes())?;
+    let mut out = value.to_vec(alloc)?;
     out.push(b'\n')?;
     Ok(out)
 }

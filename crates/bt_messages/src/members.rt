@@ -2,7 +2,7 @@
 ghost use Rattle.std.specs.Prelude.{◌≡◌, true, OnOk};
 ghost use Rattle.serde_json.specs.Data.{boolean, string};
 ghost use Rattle.serde_json.specs.View.{members_view};
-ghost use Rattle.bt_messages.specs.Chunks.{base64};
+ghost use Rattle.bt_messages.specs.Values.{base64};
 ghost use Rattle.bt_messages.specs.Lines.{with_if, with_number};
 ghost use Rattle.bt_messages.specs.Responses.{with_int64};
 
@@ -43,7 +43,7 @@ pub(crate) fn put_text(
     Ok(())
 }
 
-#[tactic(auto, unfolding(crate::specs::Chunks::base64))]
+#[tactic(auto, unfolding(crate::specs::Values::base64))]
 pub(crate) fn put_bytes(
     alloc: Global,
     members: &mut Map<String, Value>,

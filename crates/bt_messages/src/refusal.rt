@@ -74,6 +74,8 @@ pub enum Refusal {
     TwoLabels,
     /// A filter's number of cells is negative.
     NegativeCount,
+    /// The limit of rows to be read is negative.
+    NegativeRowsLimit,
     /// A filter's text is no pattern, or is one of family names and has a `:`.
     BadPattern,
     /// A filter's pattern is larger than those that are built.
@@ -158,6 +160,8 @@ impl Refusal {
             Refusal::TwoLabels =>
                 b"{\"status\":{\"code\":3,\"message\":\"two labels in a chain\"}}\n",
             Refusal::NegativeCount => b"{\"status\":{\"code\":3,\"message\":\"negative count\"}}\n",
+            Refusal::NegativeRowsLimit =>
+                b"{\"status\":{\"code\":3,\"message\":\"negative rowsLimit\"}}\n",
             Refusal::BadPattern => b"{\"status\":{\"code\":3,\"message\":\"bad pattern\"}}\n",
             Refusal::PatternTooLarge =>
                 b"{\"status\":{\"code\":3,\"message\":\"pattern too large\"}}\n",
@@ -216,6 +220,7 @@ impl Refusal {
             Refusal::BadLabel => 3,
             Refusal::TwoLabels => 3,
             Refusal::NegativeCount => 3,
+            Refusal::NegativeRowsLimit => 3,
             Refusal::BadPattern => 3,
             Refusal::PatternTooLarge => 3,
             Refusal::TooManyFamilies => 9,
@@ -269,6 +274,7 @@ impl Refusal {
             Refusal::BadLabel => "bad label",
             Refusal::TwoLabels => "two labels in a chain",
             Refusal::NegativeCount => "negative count",
+            Refusal::NegativeRowsLimit => "negative rowsLimit",
             Refusal::BadPattern => "bad pattern",
             Refusal::PatternTooLarge => "pattern too large",
             Refusal::TooManyFamilies => "too many families",

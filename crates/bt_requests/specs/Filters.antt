@@ -3,11 +3,10 @@ use Rattle.std.specs.Prelude.{ℕ, zero, suc, List, [], ◌∷◌, codes, Option
 use Rattle.serde_json.specs.Data.{Data, Items, no_items, item}
 use Rattle.bt_filter.specs.declared.asked.AskedFilter.{AskedFilter}
 use Rattle.bt_filter.specs.declared.asked.AskedFilter.TheVariants as asked
-use Rattle.bt_range.specs.declared.bound.Bound.{Bound}
-use Rattle.bt_range.specs.declared.bound.Bound.TheVariants as bound
 use Rattle.bt_range.specs.declared.byte_range.ByteRange.{ByteRange}
 use Rattle.bt_text.specs.Names.{original_name}
 use Rattle.bt_members.specs.Values.{choose, is_yes, value_at, value_of, text_at, text_or_empty, bytes_or_empty, int32_or_zero, int64_at, items_at}
+use Rattle.bt_requests.specs.Bounds.{bound_of}
 
 -- ---- by a flag or a count
 
@@ -29,10 +28,6 @@ count_in d =
     (flag_in d)))
 
 -- ---- by a range
-
--- a bound that is set may be empty
-abbrev pub bound_of : Option Data → Option Data → Bound
-bound_of closed past = choose closed (λ v. bound.Closed (bytes_or_empty v)) (choose past (λ v. bound.Past (bytes_or_empty v)) bound.Unset)
 
 -- google.bigtable.v2.ColumnRange
 abbrev pub qualifiers_in : Data → ByteRange

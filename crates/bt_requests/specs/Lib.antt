@@ -1,7 +1,9 @@
 pub mod Methods
 pub mod Envelopes
 pub mod Rules
+pub mod Bounds
 pub mod Filters
+pub mod RowSets
 pub mod Readers
 pub mod Refusals
 pub mod Requests

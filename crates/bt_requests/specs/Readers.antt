@@ -10,6 +10,7 @@ use Rattle.bt_types.specs.Grammar.{lawful, is_parent, is_table_name, table_in}
 use Rattle.bt_text.specs.Names.{original_name}
 use Rattle.bt_walk.specs.Values.{is_null}
 use Rattle.bt_requests.specs.Filters.{filter_at}
+use Rattle.bt_requests.specs.RowSets.{keys_at, ranges_at}
 use Rattle.bt_requests.specs.Rules.{rule_of_family}
 use Rattle.bt_members.specs.Values.{choose, is_yes, bytes_or_empty, value_at, text_at, bytes_at, int64_of, int64_at, micros_at, items_at, members_at}
 use Rattle.bt_requests.specs.declared.families.AskedFamily.{AskedFamily}
@@ -97,7 +98,7 @@ modify_column_families d = option_map (λ name. ModifyColumnFamilies name (modif
 -- ---- rows
 
 abbrev pub read_rows : Data → Option Request
-read_rows d = option_map (λ name. ReadRows name (filter_at d)) (table_name d)
+read_rows d = option_map (λ name. ReadRows name (keys_at d) (ranges_at d) (filter_at d) (int64_at (codes "rowsLimit") d)) (table_name d)
 
 -- by the kind that is set
 abbrev pub target_in : Data → Option DropTarget

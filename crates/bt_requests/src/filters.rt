@@ -1,15 +1,16 @@
 //! Filters as requests ask for them (`google.bigtable.v2.RowFilter`).
-ghost use Rattle.std.specs.Prelude.{◌≡◌, IfOk, option_map};
+ghost use Rattle.std.specs.Prelude.{◌≡◌, IfOk};
 ghost use Rattle.serde_json.specs.View.{view};
-ghost use Rattle.bt_requests.specs.Filters.{flag_in, count_in, bound_of, qualifiers_in, values_in, times_in, range_in, text_in, filters_in, branch_in, condition_in, kind_in, filter_in, filter_at};
+ghost use Rattle.bt_requests.specs.Filters.{flag_in, count_in, qualifiers_in, values_in, times_in, range_in, text_in, filters_in, branch_in, condition_in, kind_in, filter_in, filter_at};
 
+use crate::bounds::bound_of;
 use bt_base::OutOfMemory;
 use bt_filter::{AskedFilter, AskedFilterList};
 use bt_members::{
     bytes_or_empty, int32_or_zero, int64_at, is_yes, items_at, names, text_bytes, text_bytes_at,
     value_at,
 };
-use bt_range::{Bound, ByteRange};
+use bt_range::ByteRange;
 use bt_walk::Name;
 use serde_json::Value;
 use sqlite_items::Boxed;
@@ -157,23 +158,6 @@ fn values_in(alloc: Global, value: &Value) -> Result<ByteRange, OutOfMemory>
     let past = value_at(value, names::END_VALUE_OPEN);
     let end = bound_of(alloc, closed, past)?;
     Ok(ByteRange { start, end })
-}
-
-// A bound by whichever of two values is there.
-fn bound_of(
-    alloc: Global,
-    closed: Option<&Value>,
-    past: Option<&Value>,
-) -> Result<Bound, OutOfMemory>
-    ensures { IfOk result (λ b. b ≡ bound_of (option_map (λ v. view v.now) closed.entry) (option_map (λ v. view v.now) past.entry)) }
-{
-    if let Some(found) = closed {
-        return Ok(Bound::Closed(bytes_or_empty(alloc, found)?));
-    }
-    if let Some(found) = past {
-        return Ok(Bound::Past(bytes_or_empty(alloc, found)?));
-    }
-    Ok(Bound::Unset)
 }
 
 fn times_in(alloc: Global, value: &Value) -> Result<AskedFilter, OutOfMemory>

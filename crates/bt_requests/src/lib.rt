@@ -1,6 +1,7 @@
 //! Requests read from lines of JSON: the envelope, the methods, and what each request asks for.
 #![tactic(auto)]
 
+mod bounds;
 mod create_table;
 mod drop_row_range;
 mod envelope;
@@ -16,6 +17,7 @@ mod order;
 mod read_rows;
 mod refusal;
 mod request;
+mod row_sets;
 mod rows;
 mod rules;
 
@@ -28,6 +30,6 @@ pub use request::{DropTarget, Request};
 pub use rows::{AskedEntry, AskedEntryList};
 
 #[cfg(test)]
-mod filter_tests;
+mod row_set_tests;
 #[cfg(test)]
 mod tests;

@@ -5,8 +5,9 @@ ghost use Rattle.bt_requests.specs.Readers.{IsInOrder, read_rows};
 
 use crate::filters::filter_at;
 use crate::request::Request;
+use crate::row_sets::{keys_at, ranges_at};
 use bt_base::OutOfMemory;
-use bt_members::{names, text_at};
+use bt_members::{int64_at, names, text_at};
 use bt_types::TableName;
 use serde_json::Value;
 use std::alloc::Global;
@@ -18,6 +19,11 @@ pub(crate) fn read_rows(alloc: Global, value: &Value) -> Result<Option<Request>,
     let Some(name) = TableName::new(alloc, text_at(value, names::TABLE_NAME))? else {
         return Ok(None);
     };
-    let filter = filter_at(alloc, value)?;
-    Ok(Some(Request::ReadRows { name, filter }))
+    Ok(Some(Request::ReadRows {
+        name,
+        keys: keys_at(alloc, value)?,
+        ranges: ranges_at(alloc, value)?,
+        filter: filter_at(alloc, value)?,
+        rows_limit: int64_at(alloc, value, names::ROWS_LIMIT)?,
+    }))
 }

@@ -1,9 +1,10 @@
 //! What a line asks for.
 use crate::families::{AskedFamilyList, ModificationList};
 use crate::rows::AskedEntryList;
-use bt_base::Blob;
+use bt_base::{Blob, BlobList};
 use bt_filter::AskedFilter;
 use bt_mutation::AskedMutationList;
+use bt_range::AskedRangeList;
 use bt_types::{TableName, Text};
 
 /// The rows that DropRowRange is to remove.
@@ -16,8 +17,8 @@ pub enum DropTarget {
 }
 
 /// A request whose names of tables are lawful. The rest is as it was read; what the request leaves
-/// out is zero or empty, and a filter that it leaves out is unset. A retention is in microseconds; it is `None` where there is no
-/// `changeStreamConfig`, and 0 where that has no `retentionPeriod`.
+/// out is zero or empty, and a filter that it leaves out is unset. A retention is in microseconds;
+/// it is `None` where there is no `changeStreamConfig`, and 0 where that has no `retentionPeriod`.
 #[derive(Debug, Drop)]
 pub enum Request {
     /// `google.bigtable.admin.v2.CreateTableRequest`.
@@ -55,10 +56,13 @@ pub enum Request {
         name: TableName,
         target: Option<DropTarget>,
     },
-    /// `google.bigtable.v2.ReadRowsRequest`.
+    /// `google.bigtable.v2.ReadRowsRequest`. A request without `rows` lists nothing.
     ReadRows {
         name: TableName,
+        keys: BlobList,
+        ranges: AskedRangeList,
         filter: AskedFilter,
+        rows_limit: i64,
     },
     /// `google.bigtable.v2.MutateRowRequest`.
     MutateRow {

@@ -142,6 +142,10 @@ pub returns-in-NegativeCount : goal.returns-in-NegativeCount
 unfolding line_on_literals
 returns-in-NegativeCount c = rw c.in-NegativeCount.is refl
 
+pub returns-in-NegativeRowsLimit : goal.returns-in-NegativeRowsLimit
+unfolding line_on_literals
+returns-in-NegativeRowsLimit c = rw c.in-NegativeRowsLimit.is refl
+
 pub returns-in-BadPattern : goal.returns-in-BadPattern
 unfolding line_on_literals
 returns-in-BadPattern c = rw c.in-BadPattern.is refl
