@@ -1,16 +1,1 @@
-pub mod Altering
-pub mod Creates
-pub mod Cutting
-pub mod Dropping
-pub mod InTurn
-pub mod Judging
-pub mod Losing
-pub mod Lost
-pub mod Modifying
-pub mod Mutates
-pub mod Prefixes
-pub mod Ranges
-pub mod Refusing
 pub mod Replying
-pub mod Updates
-pub mod Verdicts

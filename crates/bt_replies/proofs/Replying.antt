@@ -1,5 +1,5 @@
 -- Plans of replies, and that there is a reply.
-use Rattle.std.proofs.Common.{◌≡◌, ℕ, List, Option, Some, None, refl, inl, inr}
+use Rattle.std.proofs.Common.{◌≡◌, ℕ, ℤ, List, Option, Some, None, refl, inl, inr}
 use Rattle.std.specs.Prelude.{Result, Ok, Err, IfOk}
 use Rattle.serde_json.specs.Data.{Data}
 use Rattle.bt_contents.specs.Contents.{Contents}
@@ -14,11 +14,13 @@ use Rattle.bt_requests.specs.declared.refusal.RequestRefusal.{RequestRefusal}
 use Rattle.bt_requests.specs.declared.request.Request.{Request}
 use Rattle.bt_requests.specs.declared.request.Request.TheVariants.{CreateTable, GetTable, ListTables, DeleteTable, UpdateTable, ModifyColumnFamilies, DropRowRange, MutateRow, MutateRows, ReadRows}
 use Rattle.bt_replies.specs.Lines.{IsAskedReply, IsEnvelopedReply, IsReplyTo, IsRequestReply}
-use Rattle.bt_replies.specs.Plans.{IsPlan, IsPlanOf}
-use Rattle.bt_replies.specs.Replies.{Reply, refused}
-use Rattle.bt_replies.specs.declared.plan.Plan.{Plan}
-use Rattle.bt_replies.specs.Rows.{IsFilteredReply, IsReadReply, filtered, refusal_for_filter, rows_reply}
-use Rattle.bt_replies.proofs.Verdicts.{valid_or_refused}
+use Rattle.bt_plans.specs.Plans.{IsPlan, IsPlanOf}
+use Rattle.bt_range.specs.declared.asked_range.AskedRange.{AskedRange}
+use Rattle.bt_read.specs.Answers.{answer}
+use Rattle.bt_plans.specs.Replies.{Reply, refused, rows_reply}
+use Rattle.bt_plans.specs.declared.plan.Plan.{Plan}
+use Rattle.bt_row_replies.specs.Rows.{IsFilteredReply, IsLimitedReply, IsReadReply, limit_in, refusal_for_filter}
+use Rattle.bt_row_replies.proofs.Verdicts.{valid_or_refused}
 use Rattle.bt_schema.specs.Schema.{table_of}
 use Rattle.bt_state.specs.State.{Present, rows_of}
 
@@ -27,15 +29,19 @@ pub plan_of_one : {E : Type 0} (p : Present) (r : Reply) (result : Result Plan E
 plan_of_one p r (Ok plan) is = (r, refl, is p)
 plan_of_one p r (Err e) is = tt
 
-filtered_reply : (f : AskedFilter) (rows : Contents) → (r : Reply) × IsFilteredReply f rows r
-filtered_reply f rows = elim (valid_or_refused f) as (λ _. (r : Reply) × IsFilteredReply f rows r) [
-  | inl valid ↦ (rows_reply (filtered (filter_of f) rows), inl (valid, refl))
+filtered_reply : (rows : Contents) (keys : List (List ℕ)) (ranges : List AskedRange) (f : AskedFilter) (n : ℕ) → (r : Reply) × IsFilteredReply rows keys ranges f n r
+filtered_reply rows keys ranges f n = elim (valid_or_refused f) as (λ _. (r : Reply) × IsFilteredReply rows keys ranges f n r) [
+  | inl valid ↦ (rows_reply (answer rows keys ranges (filter_of f) n), inl (valid, refl))
   | inr bad ↦ (refused (refusal_for_filter bad.0), inr (bad.0, bad.1, bad.2, refl))
 ]
 
-read_reply : (p : Present) (f : AskedFilter) (t : Option TableInfo) → (r : Reply) × IsReadReply p f t r
-read_reply p f None = (_, refl)
-read_reply p f (Some t) = filtered_reply f (rows_of t.incarnation p.contents)
+limited_reply : (rows : Contents) (keys : List (List ℕ)) (ranges : List AskedRange) (f : AskedFilter) (limit : Option ℕ) → (r : Reply) × IsLimitedReply rows keys ranges f limit r
+limited_reply rows keys ranges f None = (_, refl)
+limited_reply rows keys ranges f (Some n) = filtered_reply rows keys ranges f n
+
+some_read : (p : Present) (keys : List (List ℕ)) (ranges : List AskedRange) (f : AskedFilter) (limit : ℤ) (t : Option TableInfo) → (r : Reply) × IsReadReply p keys ranges f limit t r
+some_read p keys ranges f limit None = (_, refl)
+some_read p keys ranges f limit (Some t) = limited_reply (rows_of t.incarnation p.contents) keys ranges f (limit_in limit)
 
 request_reply : (p : Present) (m : ℕ) (request : Request) → (r : Reply) × IsRequestReply p m request r
 request_reply p m (CreateTable name families retention) = (_, refl)
@@ -47,7 +53,7 @@ request_reply p m (ModifyColumnFamilies name changes) = (_, refl)
 request_reply p m (DropRowRange name target) = (_, refl)
 request_reply p m (MutateRow name key ms) = (_, refl)
 request_reply p m (MutateRows name entries) = (_, refl)
-request_reply p m (ReadRows name filter) = read_reply p filter (table_of name p.schema)
+request_reply p m (ReadRows name keys ranges filter limit) = some_read p keys ranges filter limit (table_of name p.schema)
 
 asked_reply : (p : Present) (m : ℕ) (asked : Result Request RequestRefusal) → (r : Reply) × IsAskedReply p m asked r
 asked_reply p m (Err why) = (_, refl)

@@ -1,13 +1,1 @@
-pub mod Replies
-pub mod Tables
-pub mod Rows
 pub mod Lines
-pub mod Plans
-pub mod NoPlans
-pub mod MutateRows
-pub mod Drops
-pub mod Modifications
-pub mod Losses
-pub mod Families
-pub mod Records
-pub mod Prefixes

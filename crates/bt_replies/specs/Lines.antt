@@ -15,12 +15,12 @@ use Rattle.bt_requests.specs.declared.request.Request.{Request}
 use Rattle.bt_requests.specs.declared.request.Request.TheVariants.{CreateTable, GetTable, ListTables, DeleteTable, UpdateTable, ModifyColumnFamilies, DropRowRange, MutateRow, MutateRows, ReadRows}
 use Rattle.bt_schema.specs.Schema.{table_of}
 use Rattle.bt_state.specs.State.{Present}
-use Rattle.bt_replies.specs.Drops.{drop_reply}
-use Rattle.bt_replies.specs.Modifications.{modify_reply}
-use Rattle.bt_replies.specs.MutateRows.{mutate_rows_reply}
-use Rattle.bt_replies.specs.Replies.{Reply, refused, refused_by}
-use Rattle.bt_replies.specs.Rows.{IsReadReply, mutate_reply}
-use Rattle.bt_replies.specs.Tables.{create_reply, delete_reply, get_reply, list_reply, update_reply}
+use Rattle.bt_row_replies.specs.Drops.{drop_reply}
+use Rattle.bt_table_replies.specs.Modifications.{modify_reply}
+use Rattle.bt_row_replies.specs.MutateRows.{mutate_rows_reply}
+use Rattle.bt_plans.specs.Replies.{Reply, refused, refused_by}
+use Rattle.bt_row_replies.specs.Rows.{IsReadReply, mutate_reply}
+use Rattle.bt_table_replies.specs.Tables.{create_reply, delete_reply, get_reply, list_reply, update_reply}
 
 -- the replies to a request
 abbrev pub IsRequestReply : Present → ℕ → Request → Reply → Type 0
@@ -33,7 +33,7 @@ IsRequestReply p m (ModifyColumnFamilies name changes) r = r ≡ modify_reply p 
 IsRequestReply p m (DropRowRange name target) r = r ≡ drop_reply p m target (table_of name p.schema)
 IsRequestReply p m (MutateRow name key ms) r = r ≡ mutate_reply m key ms (table_of name p.schema)
 IsRequestReply p m (MutateRows name entries) r = r ≡ mutate_rows_reply m entries (table_of name p.schema)
-IsRequestReply p m (ReadRows name filter) r = IsReadReply p filter (table_of name p.schema) r
+IsRequestReply p m (ReadRows name keys ranges filter limit) r = IsReadReply p keys ranges filter limit (table_of name p.schema) r
 
 -- the status line of a request that is refused for what it holds
 abbrev pub request_refusal_line : RequestRefusal → List ℕ

@@ -2,29 +2,28 @@
 ghost use Rattle.std.specs.Prelude.{◌≡◌, ◌≤◌, IfOk};
 ghost use Rattle.serde_json.specs.View.{view};
 ghost use Rattle.bt_entry.specs.Grammar.{last_moment};
+ghost use Rattle.bt_plans.specs.Plans.{IsPlan, IsPlanOf};
+ghost use Rattle.bt_plans.specs.Replies.{refused_by};
 ghost use Rattle.bt_replies.specs.Lines.{IsAskedReply, IsReplyTo, IsRequestReply, envelope_refusal, request_refusal_line};
-ghost use Rattle.bt_replies.specs.Plans.{IsPlan, IsPlanOf};
-ghost use Rattle.bt_replies.specs.Replies.{refused_by};
 ghost use Rattle.bt_requests.specs.Readers.{HasOrder};
 ghost use Rattle.bt_requests.specs.Requests.{request_in};
 ghost use Rattle.bt_state.specs.State.{Present};
 
-use crate::answer::Answer;
-use crate::create_table::create_table;
-use crate::delete_table::delete_table;
-use crate::drop_row_range::drop_row_range;
-use crate::get_table::get_table;
-use crate::list_tables::list_tables;
-use crate::modify_column_families::modify_column_families;
-use crate::mutate_row::mutate_row;
-use crate::mutate_rows::mutate_rows;
-use crate::plan::Plan;
-use crate::read_rows::read_rows;
-use crate::update_table::update_table;
 use bt_base::OutOfMemory;
 use bt_messages::{Refusal, bad_field_line, unsupported_line};
+use bt_plans::{Answer, Plan};
 use bt_requests::{LineRefusal, Method, Request, RequestRefusal, read_envelope, read_request};
+use bt_row_replies::drop_row_range::drop_row_range;
+use bt_row_replies::mutate_row::mutate_row;
+use bt_row_replies::mutate_rows::mutate_rows;
+use bt_row_replies::read_rows::read_rows;
 use bt_state::Present;
+use bt_table_replies::create_table::create_table;
+use bt_table_replies::delete_table::delete_table;
+use bt_table_replies::get_table::get_table;
+use bt_table_replies::list_tables::list_tables;
+use bt_table_replies::modify_column_families::modify_column_families;
+use bt_table_replies::update_table::update_table;
 use serde_json::Value;
 use std::alloc::Global;
 
@@ -137,6 +136,12 @@ fn request_plan(
         Request::MutateRows { name, entries } => {
             mutate_rows(alloc, present, &name, entries, moment)
         }
-        Request::ReadRows { name, filter } => read_rows(alloc, present, &name, filter),
+        Request::ReadRows {
+            name,
+            keys,
+            ranges,
+            filter,
+            rows_limit,
+        } => read_rows(alloc, present, &name, keys, ranges, filter, rows_limit),
     }
 }

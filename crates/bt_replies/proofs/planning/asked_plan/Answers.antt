@@ -3,7 +3,7 @@ use Rattle.std.specs.Prelude.{Err}
 use Rattle.serde_json.specs.View.{view}
 use Rattle.bt_replies.proofs.Replying.{plan_of_one}
 use Rattle.bt_replies.specs.Lines.{request_refusal_line}
-use Rattle.bt_replies.specs.Replies.{refused_by}
+use Rattle.bt_plans.specs.Replies.{refused_by}
 use Rattle.bt_requests.specs.Requests.{request_in}
 use Rattle.bt_replies.proofs.planning.asked_plan.Goals as goal
 

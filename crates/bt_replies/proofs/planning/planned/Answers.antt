@@ -1,7 +1,7 @@
 use Rattle.std.proofs.Common.{◌≡◌, refl, rules}
 use Rattle.std.specs.Prelude.{Err}
 use Rattle.bt_replies.specs.Lines.{envelope_refusal}
-use Rattle.bt_replies.specs.Replies.{refused}
+use Rattle.bt_plans.specs.Replies.{refused}
 use Rattle.bt_requests.specs.Envelopes.{envelope_of}
 use Rattle.bt_replies.proofs.planning.planned.Goals as goal
 

@@ -1,0 +1,3 @@
+pub mod InTurn
+pub mod Mutates
+pub mod Refusing

@@ -1,0 +1,6 @@
+pub mod Beginnings
+pub mod NoPlans
+pub mod Plans
+pub mod Records
+pub mod Replies
+pub mod RowEntries

@@ -1,6 +1,0 @@
-use Rattle.std.proofs.Common.{rules}
-use Rattle.bt_messages.specs.declared.response.Response.TheVariants.{CreateTable}
-use Rattle.bt_replies.proofs.create_table.creation.Goals as goal
-
-pub returns : goal.returns
-returns c = c.changes.ensures (CreateTable c.args.table) (search rules)

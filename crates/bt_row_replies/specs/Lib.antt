@@ -1,0 +1,4 @@
+pub mod Drops
+pub mod MutateRows
+pub mod Prefixes
+pub mod Rows

@@ -1,0 +1,6 @@
+pub mod Altering
+pub mod Creates
+pub mod Losing
+pub mod Lost
+pub mod Modifying
+pub mod Updates

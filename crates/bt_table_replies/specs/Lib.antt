@@ -1,0 +1,4 @@
+pub mod Families
+pub mod Losses
+pub mod Modifications
+pub mod Tables
