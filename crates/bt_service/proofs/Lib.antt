@@ -1,4 +1,3 @@
-pub mod Said
 pub mod Sizes
 pub mod Progress
 pub mod Alone

@@ -1,18 +1,24 @@
 -- A reply's change, made.
-use Rattle.std.proofs.Common.{◌≡◌, ◌<◌, ℕ, Bool, true, false, List, [], length, take, inl, inr, refl, sym, ap, ◌∙◌, subst}
+use Rattle.std.proofs.Common.{◌≡◌, ◌<◌, ℕ, Bool, true, false, List, [], ◌++◌, length, take, inl, inr, refl, sym, ap, ◌∙◌, subst}
+use Rattle.std.specs.List.{flat_map}
 use Rattle.std.specs.Prelude.{Result, Ok, Err}
 use Rattle.bt_crash.specs.Changes.{HoldsSome, StepsThrough}
 use Rattle.bt_crash.proofs.Chains.{OnlyNow}
 use Rattle.bt_messages.specs.Refusals.{refusal_line}
 use Rattle.bt_messages.specs.declared.refusal.Refusal.TheVariants.{ChangeTooLarge, DiskFailed, OutOfMemory}
 use Rattle.bt_outside.specs.declared.disk.Disk.{Ghosts}
-use Rattle.bt_replies.specs.Plans.{IsSaid, answer_bytes}
-use Rattle.bt_replies.specs.Replies.{Reply, reply_lines}
-use Rattle.bt_replies.specs.declared.answer.Answer.{Answer}
+use Rattle.bt_plans.specs.Plans.{IsSaid, answer_bytes, read_reply}
+use Rattle.bt_plans.specs.Replies.{Reply, reply_lines}
+use Rattle.bt_plans.specs.declared.answer.Answer.{Answer}
+use Rattle.bt_plans.specs.declared.answer.Answer.TheVariants.{Refused}
+use Rattle.bt_plans.specs.declared.read_plan.ReadPlan.{ReadPlan}
+use Rattle.bt_send.specs.Reads.{ReadGoes}
 use Rattle.bt_service.specs.Commits.{AreThere, CommitsSo}
-use Rattle.bt_service.specs.Outcomes.{IsUsable, outcome_of}
+use Rattle.bt_service.specs.Outcomes.{IsUsable, SaysSo, has_ended, outcome_of}
 use Rattle.bt_service.specs.Steps.{EndsIf, Leaves, Made}
 use Rattle.bt_service.specs.Turns.{GoesSo, How, ended, refused_on_the_way, whole, fitting, tried_by, unless_too_large}
+use Rattle.bt_service.specs.declared.outcome.Outcome.{Outcome}
+use Rattle.bt_service.specs.declared.outcome.Outcome.TheVariants.{Says}
 use Rattle.bt_service.specs.declared.records.ChangeFault.{ChangeFault}
 use Rattle.bt_service.specs.declared.records.ChangeFault.TheVariants as change
 use Rattle.bt_service.proofs.Progress.{after_same, none_there}
@@ -39,6 +45,22 @@ module _ {D : Type 0} (disk : Ghosts D) (limits : Limits) (s : State) (r : Reply
     pub made_said : (answer : Answer) → IsSaid answer r → Made disk limits s r now now store (answer_bytes answer) false
     made_said answer is =
         makes r (not_cut limits s.present r (ap (fitting limits s.present.last) is.records ∙ sym is.records)) whole [] now now store (answer_bytes answer) false (is.lines, sym is.records) tt stands
+        (none_there disk s now store law stands).steps
+
+    -- a read changes nothing, however much of its reply is written
+    pub made_read : (read : ReadPlan) → r ≡ read_reply s.present read → (out : List ℕ) → ReadGoes (read_reply s.present read).responses out → Made disk limits s r now now store out false
+    made_read read is out (inl all) =
+        let none : r.records ≡ [] = ap (λ (x : Reply). x.records) is in
+        let lines : out ≡ reply_lines r = all ∙ ap reply_lines (sym is) in
+        makes r (not_cut limits s.present r (ap (fitting limits s.present.last) none ∙ sym none)) whole [] now now store out false (lines, sym none) tt stands
+        (none_there disk s now store law stands).steps
+    made_read read is out (inr some) =
+        let none : r.records ≡ [] = ap (λ (x : Reply). x.records) is in
+        let lines : out ≡ flat_map (λ line. line) (take some.0 r.responses) ++ refusal_line OutOfMemory =
+        some.1 ∙ ap (λ (x : Reply). flat_map (λ line. line) (take some.0 x.responses) ++ refusal_line OutOfMemory) (sym is)
+        in
+        makes r (not_cut limits s.present r (ap (fitting limits s.present.last) none ∙ sym none)) refused_on_the_way [] now now store out false
+        ((some.0, lines), (0, inl refl, refl)) tt stands
         (none_there disk s now store law stands).steps
 
     pub made_without_memory : Made disk limits s r now now store (refusal_line OutOfMemory) false
@@ -74,17 +96,26 @@ module _ {D : Type 0} (disk : Ghosts D) (limits : Limits) (s : State) (r : Reply
         (subst (λ (t : State). HoldsState t (disk.held new)) (after_same s (take reads.0 fit)) reads.2)
         (subst (λ (rs : List (List Event)). StepsThrough disk HoldsState after_record s rs old new) (sym same) steps)
 
+module _ {D : Type 0} (disk : Ghosts D) (limits : Limits) (s : State) (old new : D) (store : Seen) (r : Reply) where
+  -- whatever is written for the outcome, the change was made that goes with it
+  abbrev pub MadeOf : Outcome → Type 0
+  MadeOf outcome = (out : List ℕ) → SaysSo store.present outcome out → Made disk limits s r old new store out (has_ended outcome)
+
+  -- the bytes that are written are those of the answer
+  pub so_said : (said : Answer) (ends : Bool) → Made disk limits s r old new store (answer_bytes said) ends → MadeOf (Says said ends)
+  so_said said ends made out is = subst (λ (o : List ℕ). Made disk limits s r old new store o ends) (sym is) made
+
 -- what is said of the records is what was made
 module _ {D T : Type 0} (disk : Ghosts D) (limits : Limits) (s : State) (old new : D) (store : Seen) (answer : Answer) where
   pub made_changes : (r : Reply) (tells : disk.tells) → disk.may_leave new (disk.held new) → answer_bytes answer ≡ reply_lines r → (result : Result T ChangeFault) → CommitsSo disk limits s r.records old new store result
-      → Made disk limits s r old new store (answer_bytes (outcome_of result answer).answer) (outcome_of result answer).has_ended
-  made_changes r tells reads lines (Ok x) so = made_whole disk limits s r old new store answer lines so.0 so.1
-  made_changes r tells reads lines (Err change.TooLarge) so = made_too_large disk limits s r old new store so.0 so.1
-  made_changes r tells reads lines (Err change.OutOfMemory) so = made_on_the_way disk limits s r old new store so.0 so.1 so.2
-  made_changes r tells reads lines (Err change.DiskFailed) so = made_ended disk limits s r old new store so (so.now tells (disk.held new) reads)
+      → MadeOf disk limits s old new store r (outcome_of result answer)
+  made_changes r tells reads lines (Ok x) so = so_said disk limits s old new store r answer false (made_whole disk limits s r old new store answer lines so.0 so.1)
+  made_changes r tells reads lines (Err change.TooLarge) so = so_said disk limits s old new store r (Refused ChangeTooLarge) false (made_too_large disk limits s r old new store so.0 so.1)
+  made_changes r tells reads lines (Err change.OutOfMemory) so = so_said disk limits s old new store r (Refused OutOfMemory) false (made_on_the_way disk limits s r old new store so.0 so.1 so.2)
+  made_changes r tells reads lines (Err change.DiskFailed) so = so_said disk limits s old new store r (Refused DiskFailed) true (made_ended disk limits s r old new store so (so.now tells (disk.held new) reads))
 
   -- the store may go on being used, unless the disk failed
-  pub usable_changes : (rs : List (List Event)) (result : Result T ChangeFault) → CommitsSo disk limits s rs old new store result → IsUsable disk (outcome_of result answer).has_ended store new
+  pub usable_changes : (rs : List (List Event)) (result : Result T ChangeFault) → CommitsSo disk limits s rs old new store result → IsUsable disk (has_ended (outcome_of result answer)) store new
   usable_changes rs (Ok x) so = (after_records s rs, so.1.stands)
   usable_changes rs (Err change.TooLarge) so = (after_records s (fitting limits s.present.last rs), so.1.stands)
   usable_changes rs (Err change.OutOfMemory) so = (after_records s (take so.0 (fitting limits s.present.last rs)), so.2.stands)

@@ -10,7 +10,7 @@ use Rattle.bt_entry.specs.declared.numbered.Numbered.{Numbered}
 use Rattle.bt_entry.specs.Spelling as spellings
 use Rattle.bt_messages.specs.Refusals.{refusal_line}
 use Rattle.bt_messages.specs.declared.refusal.Refusal.TheVariants.{ChangeTooLarge}
-use Rattle.bt_replies.specs.Replies.{Reply}
+use Rattle.bt_plans.specs.Replies.{Reply}
 use Rattle.bt_service.specs.Turns.{fitting, is_too_large, record_body, unless_too_large}
 use Rattle.bt_state.specs.State.{Event, Present, events_of, greatest_sequence, numbered}
 use Rattle.bt_store.specs.Faults.{IsTooLarge}

@@ -1,28 +1,41 @@
 -- Which answers come of which results.
-use Rattle.std.specs.Prelude.{◌⊎◌, ◌≡◌, ℕ, Bool, true, false, Result, Ok, Err}
+use Rattle.std.specs.Prelude.{◌⊎◌, ◌≡◌, ℕ, Bool, true, false, List, Result, Ok, Err}
 use Rattle.bt_base.specs.Counts.{Risen}
 use Rattle.bt_gate.specs.Faults.{WriteFailed}
 use Rattle.bt_messages.specs.declared.refusal.Refusal.TheVariants as refusal
 use Rattle.bt_outside.specs.declared.disk.Disk.{Ghosts}
-use Rattle.bt_replies.specs.declared.answer.Answer.{Answer}
-use Rattle.bt_replies.specs.declared.answer.Answer.TheVariants.{Refused}
+use Rattle.bt_plans.specs.Plans.{answer_bytes, read_reply}
+use Rattle.bt_plans.specs.declared.answer.Answer.{Answer}
+use Rattle.bt_plans.specs.declared.answer.Answer.TheVariants.{Refused}
+use Rattle.bt_send.specs.Reads.{ReadGoes}
 use Rattle.bt_service.specs.declared.handled.Handled.{Handled}
 use Rattle.bt_service.specs.declared.handled.Handled.TheVariants.{Answered, DiskEnded, LinkLost}
 use Rattle.bt_service.specs.declared.outcome.Outcome.{Outcome}
+use Rattle.bt_service.specs.declared.outcome.Outcome.TheVariants.{Reads, Says}
 use Rattle.bt_service.specs.declared.records.ChangeFault.{ChangeFault}
 use Rattle.bt_service.specs.declared.records.ChangeFault.TheVariants.{DiskFailed, OutOfMemory, TooLarge}
-use Rattle.bt_state.specs.State.{State}
+use Rattle.bt_state.specs.State.{Present, State}
 use Rattle.bt_store.specs.Stands.{Seen, Stands}
 
+-- the run ends after it
+abbrev pub has_ended : Outcome → Bool
+has_ended (Says answer ended) = ended
+has_ended (Reads read) = false
+
+-- this may be written for it
+abbrev pub SaysSo : Present → Outcome → List ℕ → Type 0
+SaysSo p (Says answer ended) out = out ≡ answer_bytes answer
+SaysSo p (Reads read) out = ReadGoes (read_reply p read).responses out
+
 abbrev pub says : Answer → Outcome
-says answer = record { answer = answer; has_ended = false }
+says answer = Says answer false
 
 -- what is said once the records of a change were committed, or some of them
 abbrev pub outcome_of : {T : Type 0} → Result T ChangeFault → Answer → Outcome
 outcome_of (Ok x) answer = says answer
 outcome_of (Err TooLarge) answer = says (Refused refusal.ChangeTooLarge)
 outcome_of (Err OutOfMemory) answer = says (Refused refusal.OutOfMemory)
-outcome_of (Err DiskFailed) answer = record { answer = Refused refusal.DiskFailed; has_ended = true }
+outcome_of (Err DiskFailed) answer = Says (Refused refusal.DiskFailed) true
 
 -- by the link and the disk
 abbrev pub handled_by : {T E : Type 0} → Bool → Result T E → Handled

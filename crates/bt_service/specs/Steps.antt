@@ -1,32 +1,27 @@
 -- What a line does to the links, the store and the disk.
-use Rattle.std.specs.Prelude.{◌≡◌, ◌⊎◌, ℕ, Bool, true, false, List, [], ◌∷◌, ◌++◌, length, Option}
+use Rattle.std.specs.Prelude.{◌≡◌, ℕ, Bool, true, false, List, Option}
 use Rattle.bt_base.specs.Counts.{Risen}
 use Rattle.bt_crash.specs.Changes.{StepsThrough}
-use Rattle.bt_outside.specs.Links.{Adds, LastGoes, Sent}
+use Rattle.bt_outside.specs.Links.{LastGoes, Sent}
 use Rattle.bt_outside.specs.declared.disk.Disk.{Ghosts}
-use Rattle.bt_replies.specs.Replies.{Reply}
+use Rattle.bt_replies.specs.Lines.{IsReplyTo}
+use Rattle.bt_plans.specs.Replies.{Reply}
+use Rattle.bt_send.specs.Writes.{Writes}
 use Rattle.bt_service.specs.Turns.{Given, GoesOn, GoesSo, How, ended, refused_on_the_way, whole, IsGiven, tried, tried_by, unless_too_large}
+use Rattle.bt_service.specs.Outcomes.{SaysSo, has_ended}
 use Rattle.bt_service.specs.declared.handled.Handled.{Handled}
 use Rattle.bt_service.specs.declared.handled.Handled.TheVariants.{Answered, DiskEnded, LinkLost}
-use Rattle.bt_state.specs.State.{Event, State, after_record, after_records}
+use Rattle.bt_service.specs.declared.outcome.Outcome.{Outcome}
+use Rattle.bt_state.specs.State.{Event, Present, State, after_record, after_records}
 use Rattle.bt_store.specs.Held.{HoldsState}
 use Rattle.bt_store.specs.Stands.{Seen, Stands}
 use Rattle.bt_store.specs.declared.limits.Limits.{Limits}
 
 -- ---- links
 
--- new is old with this text, and marked as failed; where there is a text, the moment is noted
-pub record CutsOff (text : List ℕ) (moment : ℕ) (old new : Sent) : Type 0 where
-  pub bytes : new.bytes ≡ old.bytes ++ text
-  pub notes : (new.notes ≡ old.notes ++ (length new.bytes, moment) ∷ []) ⊎ ((text ≡ []) × (new.notes ≡ old.notes))
-  pub failed : new.failed ≡ true
-
-abbrev pub WritesSo : Bool → List ℕ → ℕ → Sent → Sent → Type 0
-WritesSo false text moment old new = Adds text moment old new
-WritesSo true text moment old new = CutsOff text moment old new
-
-abbrev pub Writes : Given → Sent → Sent → Type 0
-Writes g old new = WritesSo g.is_cut g.out g.noted old new
+-- what the line was given was written
+abbrev pub GivenTo : Given → Sent → Sent → Type 0
+GivenTo g old new = Writes g.out g.ends g.noted g.is_cut old new
 
 -- the links' faults rose where the link failed, and stayed where it did not
 abbrev pub CountedBy : Bool → ℕ → ℕ → Type 0
@@ -61,6 +56,12 @@ pub record Made {D : Type 0} (disk : Ghosts D) (limits : Limits) (s : State) (r 
   -- a crash at each moment finds the state after the first ones of these records
   pub steps : StepsThrough disk HoldsState after_record s (tried_by how (unless_too_large limits s.present r).records records) old new
 
+-- a line's change was made, as far as it goes, and what is written for it goes with that
+pub record MadeBy {D : Type 0} (disk : Ghosts D) (limits : Limits) (s : State) (p : Present) (m : ℕ) (line : List ℕ) (old new : D) (store : Seen) (outcome : Outcome) : Type 0 where
+  pub reply : Reply
+  pub is_reply : IsReplyTo p m line reply
+  pub makes : (out : List ℕ) → SaysSo store.present outcome out → Made disk limits s reply old new store out (has_ended outcome)
+
 -- ---- a line
 
 abbrev pub Suits : Handled → Given → Type 0
@@ -73,7 +74,7 @@ pub record Turned {D : Type 0} (disk : Ghosts D) (handled : Handled) (limits : L
   pub given : Given
   pub is_given : IsGiven limits s line m given
   pub suits : Suits handled given
-  pub written : LastGoes (Writes given) sent new_sent
+  pub written : LastGoes (GivenTo given) sent new_sent
   pub noted : given.noted ≡ disk.moment new
   pub counted : CountedBy given.is_cut faults new_faults
   pub leaves : Leaves disk given.how store (after_records s given.records) new

@@ -6,7 +6,8 @@ use Rattle.bt_messages.specs.Refusals.{refusal_line}
 use Rattle.bt_messages.specs.declared.refusal.Refusal.{Refusal}
 use Rattle.bt_messages.specs.declared.refusal.Refusal.TheVariants.{ChangeTooLarge, DiskFailed, OutOfMemory}
 use Rattle.bt_replies.specs.Lines.{IsReplyTo}
-use Rattle.bt_replies.specs.Replies.{Reply, reply_lines}
+use Rattle.bt_send.specs.Writes.{AreEnds}
+use Rattle.bt_plans.specs.Replies.{Reply, reply_lines}
 use Rattle.bt_state.specs.State.{Event, Present, State, after_records, greatest_sequence, moment_used, numbered}
 use Rattle.bt_store.specs.declared.limits.Limits.{Limits}
 
@@ -66,7 +67,9 @@ pub record Given : Type 0 where
   -- what was written, and whether the link failed at it
   pub out : List ℕ
   pub is_cut : Bool
-  -- the moment of the disk that the links noted with it
+  -- of each write the number of its bytes that were written by then
+  pub ends : List ℕ
+  -- the moment of the disk that the links noted with each write
   pub noted : ℕ
   -- the records that are there, as the disk reads
   pub records : List (List Event)
@@ -80,6 +83,7 @@ IsWritten true how r out records = (rest : List ℕ) × GoesSo how r (out ++ res
 pub record IsGiven (limits : Limits) (s : State) (line : List ℕ) (m : ℕ) (g : Given) : Type 0 where
   pub is_reply : IsReply limits s line m g.reply
   pub is_written : IsWritten g.is_cut g.how g.reply g.out g.records
+  pub are_ends : AreEnds g.out g.ends
 
 -- The records that a crash may find: where the disk failed, also those that do not read as there.
 abbrev pub tried_by : How → List (List Event) → List (List Event) → List (List Event)

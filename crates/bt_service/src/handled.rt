@@ -7,7 +7,8 @@ ghost use Rattle.bt_service.specs.Steps.{KeepsConnections, Turned};
 ghost use Rattle.bt_state.specs.State.{State};
 ghost use Rattle.bt_store.specs.Stands.{Stands};
 
-use crate::outcome::{Outcome, made};
+use crate::outcome::made;
+use crate::writing::written;
 use bt_outside::{Disk, LinkFailed, Links};
 use bt_store::Store;
 use std::alloc::Global;
@@ -28,7 +29,8 @@ pub enum Handled {
 /// Answers a line at the moment used for it, in microseconds since 1970. The records of its change
 /// are on the disk before its reply is written, each whole or not at all. A record that is too large
 /// is refused, with those behind it. Want of memory is answered too, by a constant line with code 8:
-/// the record at which memory ran out is not there, nor those behind it.
+/// the record at which memory ran out is not there, nor those behind it. The responses of a read are
+/// written one by one, each as soon as it is whole; want of memory may come behind some of them.
 pub fn handle<D: Disk, L: Links<D>>(
     alloc: Global,
     store: &mut Store,
@@ -53,14 +55,15 @@ pub fn handle<D: Disk, L: Links<D>>(
     ensures next_faults { L.next_faults links.new ≡ L.next_faults links.old }
 {
     let outcome = made(alloc, store, disk, line, moment);
-    let written = links.write(outcome.answer.bytes(), disk);
-    came_of(&outcome, written)
+    let has_ended = outcome.has_ended();
+    let written = written(alloc, store.present(), outcome, links, disk);
+    came_of(has_ended, written)
 }
 
-fn came_of(outcome: &Outcome, written: Result<(), LinkFailed>) -> Handled
-    ensures { result ≡ handled_by outcome.now.has_ended written }
+fn came_of(has_ended: bool, written: Result<(), LinkFailed>) -> Handled
+    ensures { result ≡ handled_by has_ended written }
 {
-    if outcome.has_ended {
+    if has_ended {
         return Handled::DiskEnded;
     }
     match written {

@@ -4,5 +4,6 @@
 mod handled;
 mod outcome;
 mod records;
+mod writing;
 
 pub use handled::{Handled, handle};

@@ -1,11 +1,10 @@
 //! A plan, carried out.
-ghost use Rattle.std.specs.Prelude.{◌≡◌, ◌≤◌};
+ghost use Rattle.std.specs.Prelude.{◌≡◌, ◌≤◌, ℕ, List};
 ghost use Rattle.bt_entry.specs.Grammar.{last_moment};
-ghost use Rattle.bt_replies.specs.Lines.{IsReplyTo};
-ghost use Rattle.bt_replies.specs.Plans.{IsPlan, answer_bytes};
-ghost use Rattle.bt_replies.specs.Replies.{Reply};
-ghost use Rattle.bt_service.specs.Outcomes.{FailsIf, IsUsable, outcome_of, says};
-ghost use Rattle.bt_service.specs.Steps.{Made};
+ghost use Rattle.bt_plans.specs.Plans.{IsPlan};
+ghost use Rattle.bt_plans.specs.Replies.{Reply};
+ghost use Rattle.bt_service.specs.Outcomes.{FailsIf, IsUsable, SaysSo, has_ended, outcome_of, says};
+ghost use Rattle.bt_service.specs.Steps.{Made, MadeBy};
 ghost use Rattle.bt_state.specs.State.{State};
 ghost use Rattle.bt_store.specs.Stands.{Stands};
 
@@ -13,15 +12,30 @@ use crate::records::{ChangeFault, commit_records};
 use bt_base::OutOfMemory;
 use bt_messages::Refusal;
 use bt_outside::Disk;
-use bt_replies::{Answer, Plan, planned};
+use bt_plans::{Answer, Plan, ReadPlan};
+use bt_replies::planned;
 use bt_store::Store;
 use std::alloc::Global;
 
-/// What is to be written for a line, and whether the disk failed, so that the run ends.
+/// What is to be written for a line.
 #[derive(Drop)]
-pub(crate) struct Outcome {
-    pub(crate) answer: Answer,
-    pub(crate) has_ended: bool,
+pub(crate) enum Outcome {
+    /// This; where the disk failed, the run ends after it.
+    Says { answer: Answer, has_ended: bool },
+    /// The rows that are read.
+    Reads(ReadPlan),
+}
+
+impl Outcome {
+    /// Whether the run ends after it.
+    pub(crate) fn has_ended(&self) -> bool
+        ensures { result ≡ has_ended self.now }
+    {
+        match self {
+            Outcome::Says { has_ended, .. } => *has_ended,
+            Outcome::Reads(_) => false,
+        }
+    }
 }
 
 /// Makes the change of a line, if it has one, as far as it can be made.
@@ -35,9 +49,9 @@ pub(crate) fn made<D: Disk>(
     requires stands { D.tells → (s : State) × Stands store.old s (D.held disk.old) (D.may_leave disk.old) }
     requires not_before { store.old.present.floor ≤ moment }
     requires not_past { moment ≤ last_moment }
-    ensures made { D.tells → (s : State) → Stands store.old s (D.held disk.old) (D.may_leave disk.old) → (r : Reply) × IsReplyTo store.old.present moment line.now r × Made D.Disk store.old.limits s r disk.old disk.new store.new (answer_bytes result.answer) result.has_ended }
-    ensures usable { D.tells → IsUsable D.Disk result.has_ended store.new disk.new }
-    ensures counted { FailsIf D.Disk result.has_ended disk.old disk.new }
+    ensures made { D.tells → (s : State) → Stands store.old s (D.held disk.old) (D.may_leave disk.old) → MadeBy D.Disk store.old.limits s store.old.present moment line.now disk.old disk.new store.new result }
+    ensures usable { D.tells → IsUsable D.Disk (has_ended result) store.new disk.new }
+    ensures counted { FailsIf D.Disk (has_ended result) disk.old disk.new }
     ensures limits { store.new.limits ≡ store.old.limits }
 {
     match planned(alloc, store.present(), line, moment) {
@@ -49,7 +63,7 @@ pub(crate) fn made<D: Disk>(
 fn said(answer: Answer) -> Outcome
     ensures { result ≡ says answer }
 {
-    Outcome {
+    Outcome::Says {
         answer,
         has_ended: false,
     }
@@ -58,9 +72,9 @@ fn said(answer: Answer) -> Outcome
 fn carried_out<D: Disk>(alloc: Global, store: &mut Store, disk: &mut D, plan: Plan) -> Outcome
     requires stands { D.tells → (s : State) × Stands store.old s (D.held disk.old) (D.may_leave disk.old) }
     requires plan { (r : Reply) × IsPlan plan store.old.present r }
-    ensures made { D.tells → (s : State) → Stands store.old s (D.held disk.old) (D.may_leave disk.old) → (r : Reply) → IsPlan plan store.old.present r → Made D.Disk store.old.limits s r disk.old disk.new store.new (answer_bytes result.answer) result.has_ended }
-    ensures usable { D.tells → IsUsable D.Disk result.has_ended store.new disk.new }
-    ensures counted { FailsIf D.Disk result.has_ended disk.old disk.new }
+    ensures made { D.tells → (s : State) → Stands store.old s (D.held disk.old) (D.may_leave disk.old) → (r : Reply) → IsPlan plan store.old.present r → (out : List ℕ) → SaysSo store.new.present result out → Made D.Disk store.old.limits s r disk.old disk.new store.new out (has_ended result) }
+    ensures usable { D.tells → IsUsable D.Disk (has_ended result) store.new disk.new }
+    ensures counted { FailsIf D.Disk (has_ended result) disk.old disk.new }
     ensures limits { store.new.limits ≡ store.old.limits }
 {
     match plan {
@@ -68,6 +82,7 @@ fn carried_out<D: Disk>(alloc: Global, store: &mut Store, disk: &mut D, plan: Pl
         Plan::Changes { records, answer } => {
             committed(commit_records(alloc, store, disk, records), answer)
         }
+        Plan::Reads(read) => Outcome::Reads(read),
     }
 }
 
@@ -78,7 +93,7 @@ fn committed(commits: Result<(), ChangeFault>, answer: Answer) -> Outcome
         Ok(()) => said(answer),
         Err(ChangeFault::TooLarge) => said(Answer::Refused(Refusal::ChangeTooLarge)),
         Err(ChangeFault::OutOfMemory) => said(Answer::Refused(Refusal::OutOfMemory)),
-        Err(ChangeFault::DiskFailed) => Outcome {
+        Err(ChangeFault::DiskFailed) => Outcome::Says {
             answer: Answer::Refused(Refusal::DiskFailed),
             has_ended: true,
         },

@@ -1,7 +1,7 @@
 //! The records of a change, committed one after another.
 ghost use Rattle.std.specs.Prelude.{◌≡◌, ◌≤◌, ◌+◌, [], ◌∷◌, length, map, OnOk};
 ghost use Rattle.bt_entry.specs.Grammar.{AreNumbered};
-ghost use Rattle.bt_replies.specs.Plans.{AreRecords};
+ghost use Rattle.bt_plans.specs.Plans.{AreRecords};
 ghost use Rattle.bt_service.specs.Commits.{CommitsSo, fault_of, is_failed};
 ghost use Rattle.bt_service.specs.Outcomes.{FailsIf};
 ghost use Rattle.bt_state.specs.State.{AreLawful, State, events_of, presents_after};
@@ -9,7 +9,7 @@ ghost use Rattle.bt_store.specs.Stands.{Stands};
 
 use bt_entry::Batch;
 use bt_outside::Disk;
-use bt_replies::RecordList;
+use bt_plans::RecordList;
 use bt_store::{Store, StoreFault};
 use std::alloc::Global;
 

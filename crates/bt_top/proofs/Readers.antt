@@ -8,16 +8,17 @@ use Rattle.bt_base.specs.Counts.{Counts, Risen}
 use Rattle.bt_crash.proofs.Chains.{OnlyNow}
 use Rattle.bt_outside.specs.Links.{Adds, AddsPart, LastGoes, Marks, Sent, fresh}
 use Rattle.bt_outside.specs.declared.disk.Disk.{Ghosts}
-use Rattle.bt_service.specs.Steps.{CountedBy, CutsOff, Leaves}
+use Rattle.bt_send.specs.Writes.{notes_at}
+use Rattle.bt_send.proofs.Sending.{Part, WritesPart, goes_as, writes_part}
+use Rattle.bt_service.specs.Steps.{CountedBy, Leaves}
 use Rattle.bt_service.specs.Turns.{How, Turn, ended, records_of, refused_on_the_way, whole}
 use Rattle.bt_service.proofs.Handles.{counted_risen}
-use Rattle.bt_service.proofs.Said.{goes_as, said_part}
 use Rattle.bt_state.specs.State.{Event, State, after_records}
 use Rattle.bt_store.specs.Stands.{Seen, Stands}
 use Rattle.bt_store.specs.declared.limits.Limits.{Limits}
 use Rattle.bt_top.specs.Crashes.{Survives}
 use Rattle.bt_top.specs.Lines.{connection_too_long, ending_in, ending_of_connection, is_blank, is_lf, line_not_ended, line_too_long, lines_in, lines_of_connection}
-use Rattle.bt_top.specs.Runs.{EndsSo, IsPrefix, Last, closed, cut, ending_out, ends_run, has_ended, has_failed, last_noted, last_tried, notes_from, out_of, stopped, stopped_of, unread}
+use Rattle.bt_top.specs.Runs.{EndsSo, IsPrefix, Last, closed, cut, ending_out, ends_run, has_ended, has_failed, last_tried, notes_from, out_of, stopped, stopped_of, unread}
 use Rattle.bt_top.specs.Steps.{BeginsWith, Divides, LeavesIf, Talked, Went, WentStopped}
 use Rattle.bt_top.proofs.Buffers.{take_past}
 use Rattle.bt_top.proofs.Divisions.{at_rest, rest_ending, too_long}
@@ -62,12 +63,8 @@ ends_marked a b m = record { bytes = m.bytes ∙ sym (append-nil a.bytes); notes
 ends_added : (text : List ℕ) (m : ℕ) (a b : Sent) → Adds text m a b → EndsWith text false a b
 ends_added text m a b x = record { bytes = x.bytes; notes = ((length b.bytes, m) ∷ [], x.notes); failed = λ fine. x.failed ∙ fine }
 
-cut_notes : (text : List ℕ) (m n : ℕ) (a b : List (ℕ × ℕ)) → (b ≡ a ++ (n, m) ∷ []) ⊎ ((text ≡ []) × (b ≡ a)) → IsPrefix a b
-cut_notes text m n a b (inl noted) = ((n, m) ∷ [], noted)
-cut_notes text m n a b (inr none) = ([], none.1 ∙ sym (append-nil a))
-
-ends_cut : (text : List ℕ) (m : ℕ) (a b : Sent) → CutsOff text m a b → EndsWith text true a b
-ends_cut text m a b x = record { bytes = x.bytes; notes = cut_notes text m (length b.bytes) a.notes b.notes x.notes; failed = λ fine. x.failed }
+ends_cut : (text : List ℕ) (m : ℕ) (p : Part text) (a b : Sent) → WritesPart text m p a b → EndsWith (take p.0 text) true a b
+ends_cut text m p a b x = record { bytes = x.bytes; notes = (notes_at (length a.bytes) m p.1, x.notes); failed = λ fine. x.failed }
 
 -- ---- how a talk ends
 
@@ -153,19 +150,18 @@ module _ {D : Type 0} (disk : Ghosts D) (limits : Limits) (s : State) (bytes : L
           read = all.read;
           written = λ before is.
               let one = all.written before fresh is in
-              (one.0, one.1, record { bytes = one.2.bytes ∙ sym (append-nil (out_of (all.turns ++ all.last ∷ []))); failed = one.2.failed refl; notes = one.2.notes });
+              (one.0, one.1, record { bytes = one.2.bytes ∙ sym (append-nil (out_of (all.turns ++ all.last ∷ []))); failed = one.2.failed refl; notes = ([], one.2.notes ∙ sym (append-nil (notes_from 0 (all.turns ++ all.last ∷ [])))) });
           counted = all.counted;
           leaves = leaves_if disk all.last.given.how has_ended new_store (after_records s (records_of (all.turns ++ all.last ∷ []))) new all.ends all.leaves;
           survives = all.survives;
         }
 
     -- it ended behind its lines, and the run goes on
-    talked_so : (last : Last) (new_sent : List Sent) (new_faults : ℕ) → stopped_of last ≡ [] → last_tried last ≡ [] → last_noted last ≡ [] → has_ended last ≡ false → EndsSo limits (after_records s (records_of r.went.turns)) bytes (map (λ u. u.line) r.went.turns) last
+    talked_so : (last : Last) (new_sent : List Sent) (new_faults : ℕ) → stopped_of last ≡ [] → last_tried last ≡ [] → has_ended last ≡ false → EndsSo limits (after_records s (records_of r.went.turns)) bytes (map (λ u. u.line) r.went.turns) last
         → LastGoes (EndsWith (ending_out last) (has_failed last)) sent1 new_sent → CountedBy (has_failed last) faults new_faults → Talked disk false limits s store bytes old mid sent new_sent told told1 faults new_faults
-    talked_so last new_sent new_faults no_turn no_records no_note no_end ends goes counts =
+    talked_so last new_sent new_faults no_turn no_records no_end ends goes counts =
         let turns = r.went.turns in
         let same : turns ≡ turns ++ stopped_of last = sym (ap (λ (l : List Turn). turns ++ l) no_turn ∙ append-nil turns) in
-        let noted : turns ≡ turns ++ last_noted last = sym (ap (λ (l : List Turn). turns ++ l) no_note ∙ append-nil turns) in
         let tries : records_of turns ≡ records_of turns ++ last_tried last = sym (ap (λ (l : List (List Event)). records_of turns ++ l) no_records ∙ append-nil (records_of turns)) in
         record {
           talk = record { answered = turns; last = last };
@@ -180,7 +176,7 @@ module _ {D : Type 0} (disk : Ghosts D) (limits : Limits) (s : State) (bytes : L
                 record {
                   bytes = two.2.bytes ∙ ap (λ (l : List ℕ). l ++ ending_out last) one.2.bytes ∙ ap (λ (ts : List Turn). out_of ts ++ ending_out last) same;
                   failed = two.2.failed one.2.failed;
-                  notes = (two.2.notes.0, two.2.notes.1 ∙ ap (λ (l : List (ℕ × ℕ)). l ++ two.2.notes.0) (one.2.notes ∙ ap (notes_from 0) noted));
+                  notes = (two.2.notes.0, two.2.notes.1 ∙ ap (λ (l : List (ℕ × ℕ)). l ++ two.2.notes.0) (one.2.notes ∙ ap (notes_from 0) same));
                 },
               );
           counted = counts;
@@ -194,12 +190,12 @@ module _ {D : Type 0} (disk : Ghosts D) (limits : Limits) (s : State) (bytes : L
     -- nothing is written behind the lines
     pub closed_quietly : (new_sent : List Sent) (new_faults : ℕ) → lines_in limits.line future ≡ [] → ending_in limits.line (leb limits.connection (length bytes)) future ≡ [] → new_sent ≡ sent1 → new_faults ≡ faults1 → Talked disk false limits s store bytes old mid sent new_sent told told1 faults new_faults
     closed_quietly new_sent new_faults no_more nothing same calm =
-        talked_so (closed []) new_sent new_faults refl refl refl refl (all_lines no_more, sym (r.of_ending ∙ nothing)) (λ before c is. (c, same ∙ is, ends_quietly c)) (calm ∙ r.went.counted)
+        talked_so (closed []) new_sent new_faults refl refl refl (all_lines no_more, sym (r.of_ending ∙ nothing)) (λ before c is. (c, same ∙ is, ends_quietly c)) (calm ∙ r.went.counted)
 
     -- a read failed
     pub left_unread : (new_sent : List Sent) (new_faults : ℕ) → LastGoes Marks sent1 new_sent → Risen faults1 new_faults → Talked disk false limits s store bytes old mid sent new_sent told told1 faults new_faults
     left_unread new_sent new_faults marks rose =
-        talked_so unread new_sent new_faults refl refl refl refl
+        talked_so unread new_sent new_faults refl refl refl
         (lines_in limits.line future, r.of_lines ∙ ap (λ (x : List (List ℕ)). x ++ lines_in limits.line future) (sym r.went.of_lines))
         (goes_as Marks (EndsWith [] true) ends_marked sent1 new_sent marks) (subst (λ (n : ℕ). Risen n new_faults) r.went.counted rose)
 
@@ -207,14 +203,15 @@ module _ {D : Type 0} (disk : Ghosts D) (limits : Limits) (s : State) (bytes : L
     pub refused_behind : {T E : Type 0} (ending written : List ℕ) (m : ℕ) (w : Result T E) (new_sent : List Sent) (new_faults : ℕ) → written ≡ ending → lines_in limits.line future ≡ [] → ending_in limits.line (leb limits.connection (length bytes)) future ≡ ending
         → OnOk w (LastGoes (Adds written m) sent1 new_sent) → OnErr w (LastGoes (AddsPart written m) sent1 new_sent) → Counts faults1 new_faults w → Talked disk false limits s store bytes old mid sent new_sent told told1 faults new_faults
     refused_behind ending written m (Ok x) new_sent new_faults same no_more is wrote part counts =
-        talked_so (closed ending) new_sent new_faults refl refl refl refl (all_lines no_more, sym (r.of_ending ∙ is))
+        talked_so (closed ending) new_sent new_faults refl refl refl (all_lines no_more, sym (r.of_ending ∙ is))
         (subst (λ (l : List ℕ). LastGoes (EndsWith l false) sent1 new_sent) same (goes_as (Adds written m) (EndsWith written false) (ends_added written m) sent1 new_sent wrote)) (counts.fine refl ∙ r.went.counted)
     refused_behind ending written m (Err x) new_sent new_faults same no_more is wrote part counts =
-        let piece = said_part written m sent1 new_sent part in
-        let some = take piece.0 written in
-        let whole : ending_of_connection limits bytes ≡ some ++ drop piece.0 written = r.of_ending ∙ is ∙ sym same ∙ sym (take-append-drop piece.0 written) in
-        talked_so (cut some) new_sent new_faults refl refl refl refl (all_lines no_more, (drop piece.0 written, whole))
-        (goes_as (CutsOff some m) (EndsWith some true) (ends_cut some m) sent1 new_sent piece.1) (subst (λ (n : ℕ). Risen n new_faults) r.went.counted (counted_risen faults1 new_faults (counts.failed refl)))
+        let piece = writes_part written m sent1 new_sent part in
+        let n = piece.0.0 in
+        let some = take n written in
+        let whole : ending_of_connection limits bytes ≡ some ++ drop n written = r.of_ending ∙ is ∙ sym same ∙ sym (take-append-drop n written) in
+        talked_so (cut some) new_sent new_faults refl refl refl (all_lines no_more, (drop n written, whole))
+        (goes_as (WritesPart written m piece.0) (EndsWith some true) (ends_cut written m piece.0) sent1 new_sent piece.1) (subst (λ (n : ℕ). Risen n new_faults) r.went.counted (counted_risen faults1 new_faults (counts.failed refl)))
 
     -- the connection is at its end
     at_end : position is_lf text ≡ None → length text ≤ limits.line → count < limits.connection → hand ≡ Some [] → (lines_in limits.line future ≡ []) × (ending_in limits.line (leb limits.connection (length bytes)) future ≡ rest_ending false text)

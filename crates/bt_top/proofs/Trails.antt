@@ -5,17 +5,18 @@ use Rattle.std.proofs.lemmas.List.{map-append, append-nil}
 use Rattle.bt_crash.proofs.Chains.{OnlyNow}
 use Rattle.bt_outside.specs.Links.{Sent}
 use Rattle.bt_outside.specs.declared.disk.Disk.{Ghosts}
-use Rattle.bt_service.specs.Steps.{CountedBy, Leaves, Turned, WritesSo}
+use Rattle.bt_send.specs.Writes.{IsMarked, notes_at}
+use Rattle.bt_send.proofs.Sending.{goes_as, goes_then}
+use Rattle.bt_service.specs.Steps.{CountedBy, GivenTo, Leaves, Turned}
 use Rattle.bt_service.specs.Turns.{AreTurns, GoesOn, How, IsGiven, IsTurn, Turn, ended, records_of, refused_on_the_way, tried, whole}
 use Rattle.bt_service.specs.declared.handled.Handled.{Handled}
 use Rattle.bt_service.specs.declared.handled.Handled.TheVariants.{Answered, DiskEnded, LinkLost}
-use Rattle.bt_service.proofs.Said.{goes_as, goes_then}
 use Rattle.bt_state.specs.State.{Event, State, after_records, moment_used}
 use Rattle.bt_store.specs.Stands.{Seen, Stands}
 use Rattle.bt_store.specs.declared.limits.Limits.{Limits}
 use Rattle.bt_top.specs.Crashes.{Survives}
 use Rattle.bt_top.specs.Lines.{is_blank}
-use Rattle.bt_top.specs.Runs.{IsPrefix, IsStop, ends_run, notes_from, out_of, where_written}
+use Rattle.bt_top.specs.Runs.{IsStop, ends_run, notes_from, out_of}
 use Rattle.bt_top.specs.Steps.{Goes, Says, Stops, Went, WentStopped, heard}
 use Rattle.bt_top.proofs.Survivals.{Sooner, after_records-append, goes_on_stands, goes_on_tried, records-append, state_then, survives_none, survives_one, survives_then}
 
@@ -29,7 +30,8 @@ notes-append before [] us = let same : before ≡ before + length (out_of []) = 
 notes-append before (t ∷ ts) us =
     let further = before + length t.given.out in
     let same : further + length (out_of ts) ≡ before + length (out_of (t ∷ ts)) = omega (arith, length-append t.given.out (out_of ts)) in
-    ap (λ (l : List (ℕ × ℕ)). (further, t.given.noted) ∷ l) (notes-append further ts us ∙ ap (λ (n : ℕ). notes_from further ts ++ notes_from n us) same)
+    ap (λ (l : List (ℕ × ℕ)). notes_at before t.given.noted t.given.ends ++ l) (notes-append further ts us ∙ ap (λ (n : ℕ). notes_from further ts ++ notes_from n us) same)
+    ∙ sym (append_assoc (notes_at before t.given.noted t.given.ends) (notes_from further ts) (notes_from (before + length (out_of (t ∷ ts))) us))
 
 -- the notes of turns after others that were said
 notes_behind : (ts us : List Turn) (a b : Sent) → Says ts a b → b.notes ++ notes_from (length b.bytes) us ≡ a.notes ++ notes_from (length a.bytes) (ts ++ us)
@@ -49,53 +51,44 @@ says_then ts us a b c f g = record {
 }
 
 pub stops_then : (ts us : List Turn) (last : Turn) (a b c : Sent) → Says ts a b → Stops us last b c → Stops (ts ++ us) last a c
-stops_then ts us last a b c f g =
-    let written = where_written last.given.out last in
-    record {
-      bytes = bytes_behind ts (us ++ last ∷ []) a.bytes b.bytes c.bytes f.bytes g.bytes ∙ ap (λ (l : List Turn). a.bytes ++ out_of l) (sym (append_assoc ts us (last ∷ [])));
-      notes = (g.notes.0, g.notes.1 ∙ ap (λ (l : List (ℕ × ℕ)). l ++ g.notes.0) (notes_behind ts (us ++ written) a b f ∙ ap (λ (l : List Turn). a.notes ++ notes_from (length a.bytes) l) (sym (append_assoc ts us written))));
-      failed = λ fine. g.failed (f.failed ∙ fine);
-    }
+stops_then ts us last a b c f g = record {
+  bytes = bytes_behind ts (us ++ last ∷ []) a.bytes b.bytes c.bytes f.bytes g.bytes ∙ ap (λ (l : List Turn). a.bytes ++ out_of l) (sym (append_assoc ts us (last ∷ [])));
+  notes = g.notes ∙ notes_behind ts (us ++ last ∷ []) a b f ∙ ap (λ (l : List Turn). a.notes ++ notes_from (length a.bytes) l) (sym (append_assoc ts us (last ∷ [])));
+  failed = λ fine. g.failed (f.failed ∙ fine);
+}
 
 says_none : (c : Sent) → Says [] c c
 says_none c = record { bytes = sym (append-nil c.bytes); notes = sym (append-nil c.notes); failed = refl }
 
+one_noted : (turn : Turn) (before : ℕ) → notes_from before (turn ∷ []) ≡ notes_at before turn.given.noted turn.given.ends
+one_noted turn before = append-nil (notes_at before turn.given.noted turn.given.ends)
+
+one_out : (turn : Turn) → out_of (turn ∷ []) ≡ turn.given.out
+one_out turn = append-nil turn.given.out
+
+not_marked : (is_cut b old new : Bool) → is_cut ≡ b → b ≡ false → IsMarked is_cut old new → new ≡ old
+not_marked true b old new same fine m = absurd cc
+not_marked false b old new same fine m = m
+
+marked_so : (is_cut b old new : Bool) → is_cut ≡ b → IsMarked is_cut old new → old ≡ false → new ≡ b
+marked_so true b old new same m fine = m ∙ same
+marked_so false b old new same m fine = m ∙ fine ∙ same
+
 -- an answer, written whole
-says_one : (turn : Turn) (is_cut : Bool) (a b : Sent) → is_cut ≡ false → WritesSo is_cut turn.given.out turn.given.noted a b → Says (turn ∷ []) a b
-says_one turn true a b fine w = absurd cc
-says_one turn false a b fine w =
-    let size : length b.bytes ≡ length a.bytes + length turn.given.out = ap length w.bytes ∙ length-append a.bytes turn.given.out in
-    record {
-      bytes = w.bytes ∙ ap (λ (l : List ℕ). a.bytes ++ l) (sym (append-nil turn.given.out));
-      notes = w.notes ∙ ap (λ (n : ℕ). a.notes ++ (n, turn.given.noted) ∷ []) size;
-      failed = w.failed;
-    }
+says_one : (turn : Turn) (a b : Sent) → turn.given.is_cut ≡ false → GivenTo turn.given a b → Says (turn ∷ []) a b
+says_one turn a b fine w = record {
+  bytes = w.bytes ∙ ap (λ (l : List ℕ). a.bytes ++ l) (sym (one_out turn));
+  notes = w.notes ∙ ap (λ (l : List (ℕ × ℕ)). a.notes ++ l) (sym (one_noted turn (length a.bytes)));
+  failed = not_marked turn.given.is_cut turn.given.is_cut a.failed b.failed refl fine w.failed;
+}
 
--- the note of what was written last, if something was
-stop_notes : (out : List ℕ) (last : Turn) (before : ℕ) (a b : List (ℕ × ℕ)) → (b ≡ a ++ (before + length last.given.out, last.given.noted) ∷ []) ⊎ ((out ≡ []) × (b ≡ a)) → IsPrefix (a ++ notes_from before (where_written out last)) b
-stop_notes [] last before a b (inl noted) = ((before + length last.given.out, last.given.noted) ∷ [], noted ∙ ap (λ (l : List (ℕ × ℕ)). l ++ (before + length last.given.out, last.given.noted) ∷ []) (sym (append-nil a)))
-stop_notes [] last before a b (inr none) = ([], none.1 ∙ sym (append-nil a) ∙ sym (append-nil (a ++ [])))
-stop_notes (x ∷ out) last before a b (inl noted) = ([], noted ∙ sym (append-nil (a ++ (before + length last.given.out, last.given.noted) ∷ [])))
-stop_notes (x ∷ out) last before a b (inr none) = absurd (cons_none none.0)
-  where
-    cons_none : x ∷ out ≡ [] → ⊥
-    cons_none e = cc
-
-stops_one : (turn : Turn) (is_cut : Bool) (a b : Sent) → is_cut ≡ turn.given.is_cut → WritesSo is_cut turn.given.out turn.given.noted a b → Stops [] turn a b
-stops_one turn true a b same w =
-    let size : length b.bytes ≡ length a.bytes + length turn.given.out = ap length w.bytes ∙ length-append a.bytes turn.given.out in
-    record {
-      bytes = w.bytes ∙ ap (λ (l : List ℕ). a.bytes ++ l) (sym (append-nil turn.given.out));
-      notes = stop_notes turn.given.out turn (length a.bytes) a.notes b.notes (subst (λ (n : ℕ). (b.notes ≡ a.notes ++ (n, turn.given.noted) ∷ []) ⊎ ((turn.given.out ≡ []) × (b.notes ≡ a.notes))) size w.notes);
-      failed = λ fine. w.failed ∙ same;
-    }
-stops_one turn false a b same w =
-    let size : length b.bytes ≡ length a.bytes + length turn.given.out = ap length w.bytes ∙ length-append a.bytes turn.given.out in
-    record {
-      bytes = w.bytes ∙ ap (λ (l : List ℕ). a.bytes ++ l) (sym (append-nil turn.given.out));
-      notes = stop_notes turn.given.out turn (length a.bytes) a.notes b.notes (inl (w.notes ∙ ap (λ (n : ℕ). a.notes ++ (n, turn.given.noted) ∷ []) size));
-      failed = λ fine. w.failed ∙ fine ∙ same;
-    }
+-- what was written of an answer
+stops_one : (turn : Turn) (a b : Sent) → GivenTo turn.given a b → Stops [] turn a b
+stops_one turn a b w = record {
+  bytes = w.bytes ∙ ap (λ (l : List ℕ). a.bytes ++ l) (sym (one_out turn));
+  notes = w.notes ∙ ap (λ (l : List (ℕ × ℕ)). a.notes ++ l) (sym (one_noted turn (length a.bytes)));
+  failed = marked_so turn.given.is_cut turn.given.is_cut a.failed b.failed refl w.failed;
+}
 
 -- ---- turns
 
@@ -204,7 +197,7 @@ module _ {D : Type 0} (disk : Ghosts D) (limits : Limits) (s : State) (store : S
           turns = turn ∷ [];
           of_lines = rw some refl;
           answers = (is_turn, record { not_cut = fine; goes_on = on }, tt);
-          written = goes_as (WritesSo x.given.is_cut x.given.out x.given.noted) (Says (turn ∷ [])) (λ (a b : Sent) (w : WritesSo x.given.is_cut x.given.out x.given.noted a b). says_one turn x.given.is_cut a b fine w) sent new_sent x.written;
+          written = goes_as (GivenTo x.given) (Says (turn ∷ [])) (λ (a b : Sent) (w : GivenTo x.given a b). says_one turn a b fine w) sent new_sent x.written;
           read = read;
           counted = counted_fine x.given.is_cut faults new_faults fine x.counted;
           stands = subst (λ (r : List (List Event)). Stands store (after_records s r) (disk.held new) (disk.may_leave new)) (sym (append-nil x.given.records)) (goes_on_stands disk x.given.how store (after_records s x.given.records) new on x.leaves);
@@ -220,7 +213,7 @@ module _ {D : Type 0} (disk : Ghosts D) (limits : Limits) (s : State) (store : S
       is_turn = is_turn;
       is_stop = stop;
       ends = ends;
-      written = goes_as (WritesSo x.given.is_cut x.given.out x.given.noted) (Stops [] turn) (λ (a b : Sent) (w : WritesSo x.given.is_cut x.given.out x.given.noted a b). stops_one turn x.given.is_cut a b refl w) sent new_sent x.written;
+      written = goes_as (GivenTo x.given) (Stops [] turn) (λ (a b : Sent) (w : GivenTo x.given a b). stops_one turn a b w) sent new_sent x.written;
       read = read;
       counted = x.counted;
       leaves = subst (λ (r : List (List Event)). Leaves disk x.given.how store (after_records s r) new) (sym (append-nil x.given.records)) x.leaves;

@@ -6,7 +6,7 @@ use Rattle.bt_crash.specs.Changes.{HasSince, HoldsSome, StepsThrough}
 use Rattle.bt_crash.specs.Moments.{AllImages, Keeps}
 use Rattle.bt_outside.specs.Disk.{Files}
 use Rattle.bt_outside.specs.declared.disk.Disk.{Ghosts}
-use Rattle.bt_replies.specs.Replies.{response_bytes}
+use Rattle.bt_plans.specs.Replies.{response_bytes}
 use Rattle.bt_service.specs.Turns.{Turn, records_of, whole}
 use Rattle.bt_state.specs.State.{Event, State, after_record}
 use Rattle.bt_store.specs.Held.{HoldsState, IsSound, LikeSome}

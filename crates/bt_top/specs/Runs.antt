@@ -2,6 +2,7 @@
 use Rattle.std.specs.Prelude.{◌≡◌, ◌⊎◌, ℕ, ◌+◌, List, [], ◌∷◌, ◌++◌, length, map, Bool, true, false}
 use Rattle.std.specs.List.{flat_map}
 use Rattle.bt_outside.specs.Links.{Sent}
+use Rattle.bt_send.specs.Writes.{notes_at}
 use Rattle.bt_service.specs.Turns.{AreTurns, How, IsTurn, Turn, ended, records_of, refused_on_the_way, tried, whole}
 use Rattle.bt_state.specs.State.{Event, State, after_records}
 use Rattle.bt_store.specs.declared.limits.Limits.{Limits}
@@ -116,27 +117,16 @@ AreTalks limits s (bytes ∷ more) (t ∷ ts) = IsTalk limits s bytes t × IsLas
 
 -- ---- what the links keep
 
--- of each turn the number of bytes written by then, and the moment that was noted with it; so many bytes stand before
+-- of the turns the numbers of bytes that were written by the end of each write, and the moments that were noted with them; so many bytes stand before
 abbrev pub notes_from : ℕ → List Turn → List (ℕ × ℕ)
 notes_from before [] = []
-notes_from before (t ∷ ts) = (before + length t.given.out, t.given.noted) ∷ notes_from (before + length t.given.out) ts
-
--- the turns of which something was written
-abbrev pub where_written : List ℕ → Turn → List Turn
-where_written [] t = []
-where_written (b ∷ bs) t = t ∷ []
-
-abbrev pub last_noted : Last → List Turn
-last_noted (closed ending) = []
-last_noted unread = []
-last_noted (stopped turn) = where_written turn.given.out turn
-last_noted (cut ending) = []
+notes_from before (t ∷ ts) = notes_at before t.given.noted t.given.ends ++ notes_from (before + length t.given.out) ts
 
 -- what was written to a connection, its mark, and the notes of its turns; others may stand behind them
 pub record IsSent (t : Talk) (c : Sent) : Type 0 where
   pub bytes : c.bytes ≡ talk_out t
   pub failed : c.failed ≡ talk_failed t
-  pub notes : IsPrefix (notes_from 0 (t.answered ++ last_noted t.last)) c.notes
+  pub notes : IsPrefix (notes_from 0 (turns_of t)) c.notes
 
 abbrev pub AreSent : List Talk → List Sent → Type 0
 AreSent [] [] = Unit {0}

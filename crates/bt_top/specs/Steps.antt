@@ -12,7 +12,7 @@ use Rattle.bt_store.specs.Stands.{Seen, Stands}
 use Rattle.bt_store.specs.declared.limits.Limits.{Limits}
 use Rattle.bt_top.specs.Crashes.{Survives}
 use Rattle.bt_top.specs.Lines.{ending_in, is_blank, lines_in}
-use Rattle.bt_top.specs.Runs.{IsPrefix, IsSent, IsStop, IsTalk, Talk, ends_run, notes_from, out_of, talk_ended, talk_failed, talk_readings, talk_records, talk_tried, turns_of, where_written}
+use Rattle.bt_top.specs.Runs.{IsPrefix, IsSent, IsStop, IsTalk, Talk, ends_run, notes_from, out_of, talk_ended, talk_failed, talk_readings, talk_records, talk_tried, turns_of}
 
 -- what a line buffer holds, and the longest line that it has room for
 pub record Buffered : Type 0 where
@@ -32,7 +32,7 @@ pub record Says (turns : List Turn) (old new : Sent) : Type 0 where
 -- new is old with the answers of these turns and what was written of the last one; it is marked where that was cut
 pub record Stops (turns : List Turn) (last : Turn) (old new : Sent) : Type 0 where
   pub bytes : new.bytes ≡ old.bytes ++ out_of (turns ++ last ∷ [])
-  pub notes : IsPrefix (old.notes ++ notes_from (length old.bytes) (turns ++ where_written last.given.out last)) new.notes
+  pub notes : new.notes ≡ old.notes ++ notes_from (length old.bytes) (turns ++ last ∷ [])
   pub failed : old.failed ≡ false → new.failed ≡ last.given.is_cut
 
 -- each of these lines had its turn

@@ -1,6 +1,7 @@
-use Rattle.std.proofs.Common.{ℕ, List, sym, subst}
-use Rattle.bt_replies.specs.Lines.{IsReplyTo}
-use Rattle.bt_service.specs.Steps.{Made, Turned}
+use Rattle.std.proofs.Common.{Bool, sym, ap, ◌∙◌, subst}
+use Rattle.bt_send.specs.Writes.{Sends, has_failed}
+use Rattle.bt_service.specs.Outcomes.{SaysSo, handled_by}
+use Rattle.bt_service.specs.Steps.{MadeBy, Turned}
 use Rattle.bt_service.specs.declared.handled.Handled.{Handled}
 use Rattle.bt_service.proofs.Handles.{turned}
 use Rattle.bt_state.specs.State.{Present}
@@ -13,12 +14,17 @@ returns-clause-turn g c disk_tells links_tells s stands =
     let old = c.args.disk.now in
     let new = c.made-outcome.new.disk in
     let store = c.made-outcome.new.store in
-    let ended = c.made-outcome.result.has_ended in
-    let some = c.made-outcome.ensures.made disk_tells s stands in
-    let replies : IsReplyTo s.present c.args.moment c.args.line.now some.0 = subst (λ (p : Present). IsReplyTo p c.args.moment c.args.line.now some.0) stands.present some.1 in
-    let made : Made disk limits s some.0 old new store c.bytes.result.now ended =
-    subst (λ (text : List ℕ). Made disk limits s some.0 old new store text ended) (sym c.bytes.ensures) some.2
+    let outcome = c.made-outcome.result in
+    let made : MadeBy disk limits s s.present c.args.moment c.args.line.now old new store outcome =
+    subst (λ (p : Present). MadeBy disk limits s p c.args.moment c.args.line.now old new store outcome) stands.present (c.made-outcome.ensures.made disk_tells s stands)
     in
-    subst (λ (h : Handled). Turned disk h limits s c.args.line.now c.args.moment old new store (g.L.Links.sent c.args.links.now) (g.L.Links.sent c.write-written.new.self) (g.L.Links.faults c.args.links.now) (g.L.Links.faults c.write-written.new.self)) (sym c.came_of.ensures)
-    (turned disk limits s c.args.line.now c.args.moment old new store c.bytes.result.now ended some.0 replies made c.write-written.result (g.L.Links.sent c.args.links.now) (g.L.Links.sent c.write-written.new.self)
-    (g.L.Links.faults c.args.links.now) (g.L.Links.faults c.write-written.new.self) (c.write-written.ensures.ok links_tells) (c.write-written.ensures.err links_tells) c.write-written.ensures.faults)
+    let sends : Sends (SaysSo store.present outcome) (has_failed c.written-written.result) (disk.moment new) (g.L.Links.sent c.args.links.now) (g.L.Links.sent c.written-written.new.links) =
+    subst (λ (p : Present). Sends (SaysSo p outcome) (has_failed c.written-written.result) (disk.moment new) (g.L.Links.sent c.args.links.now) (g.L.Links.sent c.written-written.new.links)) c.present.ensures (c.written-written.ensures.sends links_tells)
+    in
+    let w = c.written-written.result in
+    let sent = g.L.Links.sent c.args.links.now in
+    let new_sent = g.L.Links.sent c.written-written.new.links in
+    let faults = g.L.Links.faults c.args.links.now in
+    let new_faults = g.L.Links.faults c.written-written.new.links in
+    subst (λ (h : Handled). Turned disk h limits s c.args.line.now c.args.moment old new store sent new_sent faults new_faults) (sym (c.came_of.ensures ∙ ap (λ (b : Bool). handled_by b w) c.has_ended-has_ended.ensures))
+    (turned disk limits s c.args.line.now c.args.moment old new store outcome made w sent new_sent faults new_faults sends c.written-written.ensures.faults)

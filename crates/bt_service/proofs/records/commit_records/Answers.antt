@@ -2,7 +2,7 @@ use Rattle.std.proofs.Common.{◌≡◌, List, [], ◌∷◌, Ok, Err, length, m
 use Rattle.std.proofs.lemmas.Result.{err_from_is_err_and}
 use Rattle.std.specs.Vec.Iter.{into_iter_items}
 use Rattle.bt_entry.specs.declared.numbered.Numbered.{Numbered}
-use Rattle.bt_replies.specs.Plans.{AreRecords}
+use Rattle.bt_plans.specs.Plans.{AreRecords}
 use Rattle.bt_service.specs.Commits.{CommitsSo}
 use Rattle.bt_service.proofs.Progress.{Progress, begins, ends, goes_on, state_here, stops}
 use Rattle.bt_state.specs.State.{Present, events_of}

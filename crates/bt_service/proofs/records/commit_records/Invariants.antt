@@ -1,6 +1,6 @@
 use Rattle.std.proofs.Common.{◌≡◌, false, length, map}
 use Rattle.std.specs.Vec.Iter.{into_iter_items, into_iter_len}
-use Rattle.bt_replies.specs.Plans.{AreRecords}
+use Rattle.bt_plans.specs.Plans.{AreRecords}
 use Rattle.bt_service.specs.Outcomes.{FailsIf}
 use Rattle.bt_service.proofs.Progress.{Progress}
 use Rattle.bt_state.specs.State.{State, events_of}
