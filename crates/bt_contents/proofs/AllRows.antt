@@ -1,8 +1,8 @@
 -- Rows of several tables, and what becomes of each while plans are made and ended.
-use Rattle.std.proofs.Common.{◌≡◌, ◌<◌, ℕ, Bool, true, false, List, [], ◌∷◌, ◌++◌, Option, Some, None, cond, length, refl, sym, ap, ◌∙◌, arith, subst}
-use Rattle.std.specs.Prelude.{◌&&◌, IfSome, All, unwrap_or}
+use Rattle.std.proofs.Common.{◌≡◌, ◌<◌, ℕ, Bool, true, false, List, [], ◌∷◌, ◌++◌, Option, Some, None, cond, length, refl, sym, ap, ◌∙◌, subst}
+use Rattle.std.specs.Prelude.{◌&&◌, IfSome, unwrap_or}
 use Rattle.std.specs.List.{IsAmong}
-use Rattle.std.specs.Ordering.{nat_cmp, is_eq, eq_by_cmp, ordering_then}
+use Rattle.std.specs.Ordering.{nat_cmp, is_eq, ordering_then}
 use Rattle.std.specs.declared.cmp.Ordering.{Ordering}
 use Rattle.std.specs.declared.cmp.Ordering.TheVariants.{Less, Equal, Greater}
 use Rattle.std.specs.Cmp.{IsTotalOrder}
@@ -22,10 +22,10 @@ use Rattle.bt_contents.specs.declared.cell_key.CellKey.{CellKey}
 use Rattle.bt_contents.specs.declared.plan.Ending.{Ending}
 use Rattle.bt_contents.specs.declared.plan.Plan.{Plan}
 use Rattle.bt_contents.specs.declared.row_change.RowChange.{RowChange}
-use Rattle.bt_contents.specs.AllContents.{AllContents, AreAllLawful, ArePlans, AreTables, CanSettleAll, RowAt, all_placed, all_planned, all_settled, at_cmp, cells_there, is_wanted_by, is_wanted_there, plan_at, placed_or, planned_or, rows_of, settled_or}
-use Rattle.bt_contents.specs.Contents.{Contents, IsTable, keyed_at, list_at, row_at, with_entry, with_row}
+use Rattle.bt_contents.specs.AllContents.{AllContents, ArePlans, AreTables, RowAt, all_placed, all_planned, all_settled, at_cmp, cells_there, is_wanted_by, is_wanted_there, plan_at, placed_or, planned_or, rows_of, settled_or}
+use Rattle.bt_contents.specs.Contents.{Contents, IsTable, keyed_at, row_at, with_entry, with_row}
 use Rattle.bt_contents.specs.Keys.{Keyed, keyed}
-use Rattle.bt_contents.specs.Plans.{AreLawful, CanSettle, IsPlan, Values, is_wanted, is_wanted_at, placed, planned, settled, value_after, value_at, values_after}
+use Rattle.bt_contents.specs.Plans.{IsPlan, Values, is_wanted_at, placed, planned, settled, value_after, value_at, values_after}
 use Rattle.bt_contents.proofs.Entries.{at_with, sorted_put, sorted_removed}
 use Rattle.bt_contents.proofs.Plans.{same_values}
 

@@ -1,19 +1,14 @@
 -- The cells of keys in order.
-use Rattle.std.proofs.Common.{◌≡◌, ◌≤◌, ℕ, List, [], ◌∷◌, None, length, refl, arith}
+use Rattle.std.proofs.Common.{◌≡◌, ℕ, List, [], ◌∷◌, None, refl, arith}
 use Rattle.std.specs.Prelude.{All}
 use Rattle.std.specs.List.{AllByRecursion}
 use Rattle.std.specs.Map.{keys_of}
-use Rattle.std.specs.Ordering.{match_ordering}
-use Rattle.std.specs.declared.cmp.Ordering.{Ordering}
-use Rattle.std.specs.declared.cmp.Ordering.TheVariants.{Less, Equal, Greater}
-use Rattle.std.proofs.lemmas.List.Elements.{All-cons, All-head, All-tail}
+use Rattle.std.specs.declared.cmp.Ordering.TheVariants.{Less}
+use Rattle.std.proofs.lemmas.List.Elements.{All-cons}
 use Rattle.std.proofs.lemmas.Map.Keys.{sorted_head, sorted_tail}
 use Rattle.bt_types.specs.declared.cell.Cell.{Cell}
 use Rattle.bt_types.specs.Cells.{cell_cmp, AreOrdered, IsRow}
-use Rattle.bt_types.specs.Mutations.{set_cell}
-use Rattle.bt_entry.specs.Grammar.{most_of_value}
 use Rattle.bt_contents.specs.declared.cell_key.CellKey.{CellKey}
-use Rattle.bt_contents.specs.Contents.{AreShort}
 use Rattle.bt_contents.specs.Keys.{AreSorted, Keyed, cell_at, cells_of, key_cmp}
 
 none_all : (P : Cell → Type 0) → All P []

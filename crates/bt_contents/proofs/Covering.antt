@@ -1,12 +1,12 @@
 -- Which keys an extent covers: those from its first on, up to one that it doesn't reach.
-use Rattle.std.proofs.Common.{◌≡◌, ℕ, Bool, true, false, List, [], ◌∷◌, ◌++◌, append_assoc, append-nil, cond, refl, sym, ap, ◌∙◌, arith}
-use Rattle.std.specs.Prelude.{◌&&◌, ◌||◌, ◌==◌, not, filter, bytes_eq, nat_le, nat_lt}
+use Rattle.std.proofs.Common.{◌≡◌, ℕ, Bool, true, false, List, [], ◌∷◌, ◌++◌, Option, Some, None, append_assoc, append-nil, cond, refl, sym, ap, ◌∙◌, arith}
+use Rattle.std.specs.Prelude.{◌&&◌, ◌||◌, ◌==◌, not, filter, option_map, bytes_eq, is_some, nat_le, nat_lt}
 use Rattle.std.specs.Ordering.{nat_cmp, is_le, is_eq, ordering_then, ordering_reverse}
 use Rattle.std.specs.declared.cmp.Ordering.{Ordering}
 use Rattle.std.specs.declared.cmp.Ordering.TheVariants.{Less, Equal, Greater}
 use Rattle.std.specs.Cmp.{IsTotalOrder}
 use Rattle.std.specs.Cmp.Lexicographic.{slice_cmp}
-use Rattle.std.specs.List.{AllByRecursion, list_any, take_while}
+use Rattle.std.specs.List.{AllByRecursion, find, list_any, take_while}
 use Rattle.std.specs.List.Sorted.{IsStrictlySortedBy}
 use Rattle.std.specs.Map.{keys_of}
 use Rattle.std.proofs.lemmas.Bool.Decides.{nat_tests}
@@ -203,31 +203,54 @@ reached_named {X} d ks range es sorted is reached =
     reached ∙ ap (λ (xs : List (CellKey × X)). take_while (reaches d) (keys_of xs)) is ∙ ap (take_while (reaches d)) (keys_filter (λ k. is_le (key_cmp (first_of d) k) && not false) es)
     ∙ stands_together key_cmp (first_of d) (reaches d) (reaches_stops d) (keys_of es) sorted
 
--- whether a list has an item
-abbrev is_filled : {A : Type 0} → List A → Bool
-is_filled [] = false
-is_filled (x ∷ xs) = true
+-- the first of a range, where it passes
+abbrev first_if : {K X : Type 0} → (K → Bool) → List (K × X) → Option (K × X)
+first_if g [] = None
+first_if g (e ∷ es) = cond (g e.0) (Some e) None
 
-filled_any : {A : Type 0} (p : A → Bool) (xs : List A) → is_filled (filter p xs) ≡ list_any p xs
-filled_any p [] = refl
-filled_any {A} p (x ∷ xs) = by (p x) (filled_any p xs)
-  where
-    by : (t : Bool) → is_filled (filter p xs) ≡ list_any p xs → is_filled (cond t (x ∷ filter p xs) (filter p xs)) ≡ (t || list_any p xs)
-    by true rest = refl
-    by false rest = rest
+module _ {K X : Type 0} (R : K → K → Ordering) (f : K) (g : K → Bool) (stops : (a b : K) → is_le (R f a) ≡ true → g a ≡ false → R a b ≡ Less → g b ≡ false) where
+  none_found : (k : K) (es : List (K × X)) → is_le (R f k) ≡ true → g k ≡ false → AllByRecursion (λ q. R k q ≡ Less) (keys_of es) → find (λ (e : K × X). is_le (R f e.0) && g e.0) es ≡ None
+  none_found k [] from stop later = refl
+  none_found k (e ∷ es) from stop later = by (is_le (R f e.0)) (g e.0) (stops k e.0 from stop later.0) (none_found k es from stop later.1)
+    where
+      by : (s t : Bool) → t ≡ false → find (λ (e : K × X). is_le (R f e.0) && g e.0) es ≡ None → cond (s && t) (Some e) (find (λ (e : K × X). is_le (R f e.0) && g e.0) es) ≡ None
+      by s true is rest = cc is
+      by true false is rest = rest
+      by false false is rest = rest
+
+  -- the first of the range is the first that is covered, or none is
+  first_found : (es : List (K × X)) → IsStrictlySortedBy R (keys_of es) → first_if g (filter (λ e. is_le (R f e.0) && not false) es) ≡ find (λ (e : K × X). is_le (R f e.0) && g e.0) es
+  first_found [] sorted = refl
+  first_found (e ∷ es) sorted = by (is_le (R f e.0)) refl (g e.0) refl (first_found es (sorted_tail R e.0 (keys_of es) sorted))
+    where
+      by : (s : Bool) → is_le (R f e.0) ≡ s → (t : Bool) → g e.0 ≡ t → first_if g (filter (λ e. is_le (R f e.0) && not false) es) ≡ find (λ (e : K × X). is_le (R f e.0) && g e.0) es
+          → first_if g (cond (s && not false) (e ∷ filter (λ e. is_le (R f e.0) && not false) es) (filter (λ e. is_le (R f e.0) && not false) es)) ≡ cond (s && t) (Some e) (find (λ (e : K × X). is_le (R f e.0) && g e.0) es)
+      by true le true on rest = rw on refl
+      by true le false on rest = rw on (sym (none_found e.0 es le on (sorted_head R e.0 (keys_of es) sorted)))
+      by false le true on rest = rest
+      by false le false on rest = rest
 
 module _ {X : Type 0} (d : Extent) (range es : List (CellKey × X)) (sorted : IsStrictlySortedBy key_cmp (keys_of es)) (is : range ≡ filter (λ e. is_le (key_cmp (first_of d) e.0) && not false) es) where
-  first_tells : list_any (is_covered d) (keys_of es) ≡ is_filled (take_while (reaches d) (keys_of range))
-  first_tells = sym (filled_any (is_covered d) (keys_of es)) ∙ ap is_filled (sym (reached_named d (take_while (reaches d) (keys_of range)) range es sorted is refl))
+  first_covered : first_if (reaches d) range ≡ find (λ (e : CellKey × X). is_covered d e.0) es
+  first_covered = ap (λ (xs : List (CellKey × X)). first_if (reaches d) xs) is ∙ first_found key_cmp (first_of d) (reaches d) (reaches_stops d) es sorted
 
-  -- a key is covered exactly if the first of a range is reached
-  pub any_reached : (e : CellKey × X) (rest : List (CellKey × X)) → range ≡ e ∷ rest → reaches d e.0 ≡ list_any (is_covered d) (keys_of es)
-  any_reached e rest begins = by (reaches d e.0) refl ∙ sym (first_tells ∙ ap (λ (xs : List (CellKey × X)). is_filled (take_while (reaches d) (keys_of xs))) begins ∙ ap is_filled (take_while-cons (reaches d) e.0 (keys_of rest)))
-    where
-      by : (t : Bool) → reaches d e.0 ≡ t → reaches d e.0 ≡ is_filled (cond (reaches d e.0) (e.0 ∷ take_while (reaches d) (keys_of rest)) [])
-      by true on = rw on refl
-      by false on = rw on refl
+  -- the first entry that an extent covers is that of a range, where it is reached
+  pub first_tells : (e : CellKey × X) (rest : List (CellKey × X)) → range ≡ e ∷ rest → (t : Bool) → reaches d e.0 ≡ t → cond t (Some e) None ≡ find (λ (e : CellKey × X). is_covered d e.0) es
+  first_tells e rest begins t on = ap (λ s. cond {A = Option (CellKey × X)} s (Some e) None) (sym on) ∙ ap (λ (xs : List (CellKey × X)). first_if (reaches d) xs) (sym begins) ∙ first_covered
 
-  -- no key is covered where there is none in the range
-  pub none_reached : range ≡ [] → false ≡ list_any (is_covered d) (keys_of es)
-  none_reached bare = sym (first_tells ∙ ap (λ (xs : List (CellKey × X)). is_filled (take_while (reaches d) (keys_of xs))) bare)
+  -- none is covered where there is none in the range
+  pub none_covered : range ≡ [] → None ≡ find (λ (e : CellKey × X). is_covered d e.0) es
+  none_covered bare = ap (λ (xs : List (CellKey × X)). first_if (reaches d) xs) (sym bare) ∙ first_covered
+
+pub some_mapped : {A B : Type 0} (f : A → B) (o : Option A) → is_some (option_map f o) ≡ is_some o
+some_mapped f None = refl
+some_mapped f (Some x) = refl
+
+-- an entry is found exactly if one passes
+pub found_any : {K X : Type 0} (p : K → Bool) (es : List (K × X)) → is_some (find (λ (e : K × X). p e.0) es) ≡ list_any p (keys_of es)
+found_any p [] = refl
+found_any {K} {X} p (e ∷ es) = by (p e.0) (found_any p es)
+  where
+    by : (t : Bool) → is_some (find (λ (e : K × X). p e.0) es) ≡ list_any p (keys_of es) → is_some (cond t (Some e) (find (λ (e : K × X). p e.0) es)) ≡ (t || list_any p (keys_of es))
+    by true rest = refl
+    by false rest = rest

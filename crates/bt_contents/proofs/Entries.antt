@@ -1,6 +1,6 @@
 -- Entries in the order of their keys: one put in, one taken out, and what each key has.
-use Rattle.std.proofs.Common.{◌≡◌, ◌<◌, ℕ, Bool, true, false, List, [], ◌∷◌, Option, Some, None, cond, length, refl, sym, ap, ◌∙◌, arith}
-use Rattle.std.specs.Prelude.{filter, map, unwrap_or, All, IfSome}
+use Rattle.std.proofs.Common.{◌≡◌, ◌<◌, Bool, true, false, List, [], ◌∷◌, Option, Some, None, cond, length, refl, sym, ap, ◌∙◌, arith}
+use Rattle.std.specs.Prelude.{filter, map, unwrap_or, IfSome}
 use Rattle.std.specs.Ordering.{is_eq, match_ordering, ordering_reverse}
 use Rattle.std.specs.declared.cmp.Ordering.{Ordering}
 use Rattle.std.specs.declared.cmp.Ordering.TheVariants.{Less, Equal, Greater}

@@ -1,37 +1,25 @@
 -- What mutations leave at each key is what they leave of a row.
-use Rattle.std.proofs.Common.{◌≡◌, ◌≤◌, ℕ, Bool, true, false, List, [], ◌∷◌, Option, Some, None, cond, length, refl, sym, ap, ◌∙◌, arith}
-use Rattle.std.specs.Prelude.{not, filter, bytes_eq, IsSome}
-use Rattle.std.specs.Ordering.{is_eq, match_ordering, ordering_reverse}
+use Rattle.std.proofs.Common.{◌≡◌, ℕ, Bool, true, false, List, [], ◌∷◌, None, cond, refl, sym, ap, ◌∙◌}
+use Rattle.std.specs.Prelude.{not, filter}
+use Rattle.std.specs.Ordering.{match_ordering}
 use Rattle.std.specs.declared.cmp.Ordering.{Ordering}
 use Rattle.std.specs.declared.cmp.Ordering.TheVariants.{Less, Equal, Greater}
-use Rattle.std.specs.Cmp.{IsTotalOrder}
-use Rattle.std.specs.List.{AllByRecursion}
 use Rattle.std.specs.List.Sorted.{IsStrictlySortedBy}
-use Rattle.std.specs.Map.{lookup, keys_of}
+use Rattle.std.specs.Map.{keys_of}
 use Rattle.std.specs.BTreeMap.{insert_entry, is_at}
-use Rattle.std.proofs.lemmas.Cmp.{alike_right, eq_by_cmp_equiv, tied_itself}
-use Rattle.std.proofs.lemmas.Map.{lookup-none}
-use Rattle.std.proofs.lemmas.List.Elements.{All-filter}
 use Rattle.std.proofs.lemmas.List.Kept.{IsStrictlySortedBy-filter}
-use Rattle.std.proofs.lemmas.Map.Entries.{lookup-filter-keys, lookup_head, lookup_tail, none_below_head, none_past_head}
-use Rattle.std.proofs.lemmas.Map.Keys.{IsDistinct-from_sorted, sorted_tail}
-use Rattle.std.proofs.lemmas.Map.Views.{All-keys_from_lookup}
+use Rattle.std.proofs.lemmas.Map.Entries.{lookup-filter-keys}
 use Rattle.bt_types.specs.declared.cell.Cell.{Cell}
 use Rattle.bt_types.specs.declared.mutation.Mutation.{Mutation}
 use Rattle.bt_types.specs.declared.mutation.Mutation.TheVariants.{SetCell, DeleteColumn, DeleteFamily, DeleteRow}
-use Rattle.bt_types.specs.Cells.{plain}
-use Rattle.bt_types.specs.Mutations.{applied, is_in_column, mutated, set_cell}
-use Rattle.bt_entry.specs.Grammar.{most_of_value}
-use Rattle.bt_types.specs.Time.{is_micros}
+use Rattle.bt_types.specs.Mutations.{applied, mutated, set_cell}
 use Rattle.bt_contents.specs.declared.cell_key.CellKey.{CellKey}
-use Rattle.bt_contents.specs.declared.plan.Plan.{Plan}
-use Rattle.bt_contents.specs.Contents.{AreShort, HaveShort}
-use Rattle.bt_contents.specs.Extents.{AreTimed, IsTimed, removes}
+use Rattle.bt_contents.specs.Extents.{removes}
 use Rattle.bt_contents.specs.Keys.{AreSorted, Keyed, cell_at, cells_of, key_cmp, key_total}
-use Rattle.bt_contents.specs.Plans.{planned, value_after, value_at, values_after}
+use Rattle.bt_contents.specs.Plans.{value_after, value_at, values_after}
 use Rattle.bt_contents.proofs.Covering.{keys_filter}
 use Rattle.bt_contents.proofs.Entries.{lookup_put, same_entries, sorted_put}
-use Rattle.bt_contents.proofs.Plans.{exact_key, same_key, same_values, untimed_planned}
+use Rattle.bt_contents.proofs.Plans.{exact_key, same_key, same_values}
 
 -- a cell is put where its key is
 cells_put : (key : CellKey) (v : List ℕ) (es : Keyed) → cells_of (insert_entry key_cmp es key v) ≡ set_cell (cell_at key v) (cells_of es)

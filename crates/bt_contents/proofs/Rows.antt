@@ -1,10 +1,8 @@
 -- The rows of a table as they are held, and as they are seen.
 use Rattle.std.specs.Prelude.{All, IsTrue, ◌↔◌}
 use Rattle.std.proofs.Common.{◌≡◌, ◌<◌, ℕ, Bool, true, false, List, [], ◌∷◌, Option, Some, None, cond, length, refl, sym, ap, ◌∙◌, arith, subst}
-use Rattle.std.specs.Prelude.{bytes_eq, IfSome, IsSome, filter, map, unwrap_or, option_map}
+use Rattle.std.specs.Prelude.{bytes_eq, IfSome, IsSome, filter, unwrap_or, option_map}
 use Rattle.std.specs.Ordering.{is_eq, nat_cmp}
-use Rattle.std.specs.declared.cmp.Ordering.{Ordering}
-use Rattle.std.specs.declared.cmp.Ordering.TheVariants.{Less, Equal, Greater}
 use Rattle.std.specs.Cmp.Lexicographic.{slice_cmp}
 use Rattle.std.specs.List.{IsAmong, list_any}
 use Rattle.std.specs.List.Sorted.{IsStrictlySortedBy}
@@ -81,15 +79,15 @@ each_filter p (r ∷ rs) held = by (p r.0) (each_filter p rs (All-tail IsHeld r.
     by true rest = All-cons IsHeld r.1 (values_of (filter (λ r. p r.0) rs)) (All-head IsHeld r.1 (values_of rs) held) rest
     by false rest = rest
 
--- so are the rows in a range
-pub held_within : (range : RowRange) (rows : List (List ℕ × Row)) → AreHeld rows → AreHeld (rows_within range rows)
-held_within range rows held = record {
-  sorted = rw (keys_filter (is_in range) rows) (IsStrictlySortedBy-filter (slice_cmp nat_cmp) (is_in range) (keys_of rows) held.sorted);
-  each = each_filter (is_in range) rows held.each;
+-- so are the rows whose keys pass a test
+pub held_filter : (p : List ℕ → Bool) (rows : List (List ℕ × Row)) → AreHeld rows → AreHeld (filter (λ r. p r.0) rows)
+held_filter p rows held = record {
+  sorted = rw (keys_filter p rows) (IsStrictlySortedBy-filter (slice_cmp nat_cmp) p (keys_of rows) held.sorted);
+  each = each_filter p rows held.each;
 }
 
-pub seen_within : (range : RowRange) (rows : List (List ℕ × Row)) → seen (rows_within range rows) ≡ rows_within range (seen rows)
-seen_within range rows = mapped_filter (λ (r : Row). cells_of r.cells.entries) (is_in range) rows
+pub seen_filter : (p : List ℕ → Bool) (rows : List (List ℕ × Row)) → seen (filter (λ r. p r.0) rows) ≡ filter (λ r. p r.0) (seen rows)
+seen_filter p rows = mapped_filter (λ (r : Row). cells_of r.cells.entries) p rows
 
 -- ---- a row that has changed
 
@@ -247,4 +245,4 @@ module _ (family : List ℕ) (q : CellKey → Bool) (same : (k : CellKey) → Is
 
 -- the keys of the rows in a range are those of the rows that are seen there
 pub keys_within : (range : RowRange) (rows : List (List ℕ × Row)) → keys_of (rows_within range rows) ≡ keys_of (rows_within range (seen rows))
-keys_within range rows = sym (keys_of-map_values (λ (r : Row). cells_of r.cells.entries) (rows_within range rows)) ∙ ap (λ (rs : Contents). keys_of rs) (seen_within range rows)
+keys_within range rows = sym (keys_of-map_values (λ (r : Row). cells_of r.cells.entries) (rows_within range rows)) ∙ ap (λ (rs : Contents). keys_of rs) (seen_filter (is_in range) rows)

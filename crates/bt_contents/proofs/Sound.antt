@@ -1,5 +1,5 @@
 -- What is made of sound values is sound.
-use Rattle.std.proofs.Common.{◌≡◌, ◌≤◌, ℕ, Bool, true, false, List, [], ◌∷◌, Option, Some, None, cond, length, refl, sym, ap, ◌∙◌, arith}
+use Rattle.std.proofs.Common.{◌≡◌, ◌≤◌, ℕ, Bool, true, false, List, [], ◌∷◌, Option, Some, None, cond, length, refl, arith}
 use Rattle.std.specs.Prelude.{◌&&◌, is_some, All, IfSome, IsSome}
 use Rattle.std.specs.Map.{keys_of, values_of}
 use Rattle.std.proofs.lemmas.Cmp.{eq_by_cmp_equiv}

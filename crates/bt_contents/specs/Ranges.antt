@@ -9,7 +9,7 @@ use Rattle.std.specs.Map.{keys_of}
 use Rattle.bt_types.specs.declared.cell.Cell.{Cell}
 use Rattle.bt_types.specs.declared.row_range.RowRange.{RowRange}
 use Rattle.bt_types.specs.Cells.{cell_cmp, IsRow}
-use Rattle.bt_contents.specs.Contents.{Contents, AreShort, HaveRows, HaveShortValues}
+use Rattle.bt_contents.specs.Contents.{Contents, AreShort, HaveRows, HaveShortValues, key_is}
 
 -- the key is before the end, where there is one
 abbrev pub is_before : Option (List ℕ) → List ℕ → Bool
@@ -23,6 +23,15 @@ is_in range key = is_le (slice_cmp nat_cmp range.start key) && is_before range.e
 -- the rows whose keys are in the range, in their order
 abbrev pub rows_within : {X : Type 0} → RowRange → List (List ℕ × X) → List (List ℕ × X)
 rows_within range rows = filter (λ r. is_in range r.0) rows
+
+-- the row at a key alone, where it is there
+abbrev pub row_with : {X : Type 0} → List ℕ → List (List ℕ × X) → List (List ℕ × X)
+row_with key rows = filter (λ r. key_is key r.0) rows
+
+-- a row alone, unless it has no cells
+abbrev pub one_row : List ℕ → List Cell → Contents
+one_row key [] = []
+one_row key (c ∷ cs) = (key, c ∷ cs) ∷ []
 
 -- the key is at or past a key that may be none
 abbrev pub is_from : Option (List ℕ) → List ℕ → Bool

@@ -26,7 +26,7 @@ use std::marker::Model;
 #[derive(Drop)]
 pub struct Contents {
     alloc: Global,
-    rows: BTreeMap<RowKey, Row>,
+    pub(crate) rows: BTreeMap<RowKey, Row>,
 }
 
 impl Model for Contents {

@@ -119,7 +119,8 @@ fn next_value<'a>(cells: &mut Option<Iter<'a, CellKey, Blob>>) -> Option<(&'a Ce
     }
 }
 
-fn copy_of(alloc: Global, key: &CellKey, value: &Blob) -> Result<Cell, OutOfMemory>
+/// A copy of the cell that this value at this key is.
+pub(crate) fn copy_of(alloc: Global, key: &CellKey, value: &Blob) -> Result<Cell, OutOfMemory>
     ensures { IfOk result (λ cell. cell ≡ cell_at key.now value.now) }
 {
     let key = key.copy(alloc)?;

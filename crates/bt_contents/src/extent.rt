@@ -1,6 +1,6 @@
 //! Parts of a row, by the keys of their cells.
-ghost use Rattle.std.specs.Prelude.{◌≡◌, IfOk, filter};
-ghost use Rattle.std.specs.List.{list_any};
+ghost use Rattle.std.specs.Prelude.{◌≡◌, IfOk, filter, option_map};
+ghost use Rattle.std.specs.List.{find, list_any};
 ghost use Rattle.std.specs.Map.{keys_of};
 ghost use Rattle.bt_types.specs.declared.mutation.Mutation.TheVariants as mutations;
 ghost use Rattle.bt_contents.specs.Extents.{IsLatestBefore, Covers, first_of, is_covered, reaches};
@@ -79,9 +79,19 @@ impl Extent {
     pub(crate) fn has_any<V>(&self, cells: &BTreeMap<CellKey, V>) -> bool
         ensures { result ≡ list_any (is_covered self.now) (keys_of cells.now.entries) }
     {
+        self.first_in(cells).is_some()
+    }
+
+    /// The first of the entries that it covers, which is searched for.
+    pub(crate) fn first_in<'a, V>(
+        &self,
+        cells: &'a BTreeMap<CellKey, V>,
+    ) -> Option<(&'a CellKey, &'a V)>
+        ensures { option_map (λ e. (e.0.now, e.1.now)) result ≡ find (λ e. is_covered self.now e.0) cells.now.entries }
+    {
         match cells.range(self.first()..).next() {
-            Some((key, _)) => self.reaches(key),
-            None => false,
+            Some((key, value)) if self.reaches(key) => Some((key, value)),
+            _ => None,
         }
     }
 

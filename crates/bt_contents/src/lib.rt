@@ -7,6 +7,7 @@ mod changes;
 mod contents;
 mod contents_rows;
 mod extent;
+mod look_up;
 mod plan;
 mod ranges;
 mod row;

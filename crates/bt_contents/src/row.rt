@@ -1,18 +1,20 @@
 //! The cells of a row.
-ghost use Rattle.std.specs.Prelude.{◌≡◌, ◌↔◌, [], Some, true, false, OnOk, OnErr, IsTrue, bytes_eq};
-ghost use Rattle.std.specs.List.{list_any};
+ghost use Rattle.std.specs.Prelude.{◌≡◌, ◌↔◌, [], Some, true, false, IfOk, OnOk, OnErr, IsTrue, bytes_eq};
+ghost use Rattle.std.specs.List.{find, list_any};
 ghost use Rattle.std.specs.Map.{keys_of};
 ghost use Rattle.std.specs.BTreeMap.{is_at};
-ghost use Rattle.bt_types.specs.Mutations.{applied};
+ghost use Rattle.bt_types.specs.Mutations.{applied, is_in_column};
 ghost use Rattle.bt_contents.specs.declared.cell_key.CellKey.{CellKey};
 ghost use Rattle.bt_contents.specs.Contents.{HaveShort, IsSound};
 ghost use Rattle.bt_contents.specs.Keys.{AreSorted, cells_of, key_cmp};
 ghost use Rattle.bt_contents.specs.Plans.{AreLawful, CanSettle, IsPlan, placed, settled, value_at};
 
 use crate::cell_key::CellKey;
+use crate::contents_rows::copy_of;
+use crate::extent::Extent;
 use crate::plan::{Ending, Plan};
 use bt_base::{Blob, OutOfMemory};
-use bt_types::{FamilyName, MutationList};
+use bt_types::{Cell, FamilyName, MutationList, Qualifier};
 use std::alloc::Global;
 use std::collections::BTreeMap;
 
@@ -45,6 +47,24 @@ impl Row {
         self.cells
             .keys()
             .any(|key| key.family.bytes() == family.bytes())
+    }
+
+    /// The latest cell of a column, which is searched for.
+    pub(crate) fn latest(
+        &self,
+        alloc: Global,
+        family: FamilyName,
+        qualifier: Qualifier,
+    ) -> Result<Option<Cell>, OutOfMemory>
+        requires { IsSound self.now.cells.entries }
+        ensures { IfOk result (λ cell. cell ≡ find (is_in_column family qualifier 0 0) (cells_of self.now.cells.entries)) }
+    {
+        let column = Extent::of_column(family, qualifier, 0, 0);
+        let Some((key, value)) = column.first_in(&self.cells) else {
+            return Ok(None);
+        };
+        let cell = copy_of(alloc, key, value)?;
+        Ok(Some(cell))
     }
 
     /// Makes the changes of a list in order, all or none. It takes a search a cell that is set or

@@ -176,6 +176,42 @@ fn a_range_has_its_rows_and_their_cells(rt: HostRuntime) -> Result<(), Fail> {
     Ok(())
 }
 
+fn latest(
+    alloc: Global,
+    contents: &Contents,
+    key: &[u8],
+    column: (&str, u8),
+) -> Result<Option<Cell>, Fail> {
+    let key = RowKey::new(alloc, key)?.ok_or("key")?;
+    let family = family(alloc, column.0)?;
+    let qualifier = qualifier(alloc, column.1)?;
+    Ok(contents.latest(alloc, &key, family, qualifier)?)
+}
+
+#[test]
+fn the_latest_cell_of_a_column_is_found(rt: HostRuntime) -> Result<(), Fail> {
+    let alloc = rt.alloc();
+    let contents = four_rows(alloc)?;
+    assert!(rt; value_is(latest(alloc, &contents, b"b", ("f", b'q'))?, b'2'));
+    assert!(rt; latest(alloc, &contents, b"b", ("f", b'p'))?.is_none());
+    assert!(rt; latest(alloc, &contents, b"bb", ("f", b'q'))?.is_none());
+    Ok(())
+}
+
+#[test]
+fn a_row_is_found_alone(rt: HostRuntime) -> Result<(), Fail> {
+    let alloc = rt.alloc();
+    let contents = four_rows(alloc)?;
+    let key = RowKey::new(alloc, b"b")?.ok_or("key")?;
+    let mut row = contents.row(alloc, &key);
+    assert!(rt; key_is(next_key(&mut row)?, b"b"));
+    assert!(rt; value_is(row.next_cell(&mut NoReads)?, b'2'));
+    assert!(rt; next_key(&mut row)?.is_none());
+    let key = RowKey::new(alloc, b"bb")?.ok_or("key")?;
+    assert!(rt; next_key(&mut contents.row(alloc, &key))?.is_none());
+    Ok(())
+}
+
 // The keys, a byte each.
 fn keys_are(keys: &KeyList, bytes: &[u8]) -> bool {
     let firsts = keys.items().iter().map(|key| key.bytes());

@@ -1,4 +1,4 @@
-use Rattle.std.proofs.Common.{◌≡◌, ◌∙◌, List, subst, sym}
+use Rattle.std.proofs.Common.{◌∙◌, subst, sym}
 use Rattle.std.proofs.lemmas.Map.Keys.{sorted_tail}
 use Rattle.bt_contents.specs.declared.plan.Plan.{Plan}
 use Rattle.bt_contents.specs.AllContents.{RowAt, at_cmp, cells_there}

@@ -1,11 +1,8 @@
-use Rattle.std.proofs.Common.{◌≡◌, ◌∙◌, [], Some, None, ap, sym, subst, rules}
+use Rattle.std.proofs.Common.{◌≡◌, ◌∙◌, Some, None, ap, sym, subst}
 use Rattle.std.specs.Map.{lookup}
 use Rattle.std.specs.Option.{option_copied}
-use Rattle.std.proofs.lemmas.Result.{on_ok_weaker}
-use Rattle.bt_contents.specs.declared.cell_key.CellKey.{CellKey}
 use Rattle.bt_contents.specs.Contents.{key_is, keyed_at}
-use Rattle.bt_contents.specs.Keys.{Keyed}
-use Rattle.bt_contents.specs.Plans.{IsPlan, planned, values_after}
+use Rattle.bt_contents.specs.Plans.{IsPlan}
 use Rattle.bt_contents.proofs.Rows.{keyed_absent, keyed_found}
 use Rattle.bt_contents.proofs.contents.Contents.plan.Goals as goal
 

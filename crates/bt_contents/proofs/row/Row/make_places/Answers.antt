@@ -1,8 +1,7 @@
-use Rattle.std.proofs.Common.{◌≡◌, subst, sym, rules}
-use Rattle.bt_contents.specs.declared.cell_key.CellKey.{CellKey}
+use Rattle.std.proofs.Common.{subst, sym, rules}
 use Rattle.bt_contents.specs.Contents.{IsSound}
 use Rattle.bt_contents.specs.Keys.{key_total}
-use Rattle.bt_contents.specs.Plans.{placed, value_at}
+use Rattle.bt_contents.specs.Plans.{value_at}
 use Rattle.bt_contents.proofs.Entries.{same_entries}
 use Rattle.bt_contents.proofs.Plans.{exact_key, places_put, taken_back, unwanted_stay}
 use Rattle.bt_contents.proofs.Sound.{placed_sound}
