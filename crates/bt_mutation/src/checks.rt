@@ -117,8 +117,8 @@ fn check_family(families: &[Family], family: &[u8], index: u32) -> Result<(), Mu
     Ok(())
 }
 
-// A name that a family has is lawful, by the type of families.
-fn has_family(families: &[Family], name: &[u8]) -> bool
+/// Whether some family has this name, which is then lawful, by the type of families.
+pub fn has_family(families: &[Family], name: &[u8]) -> bool
     ensures value { result ≡ has_family families.now name.now }
     ensures lawful { IsTrue result → IsTrue (is_family_name name.now) }
 {

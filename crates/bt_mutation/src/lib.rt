@@ -7,7 +7,7 @@ mod refusal;
 mod resolution;
 
 pub use asked::{AskedMutation, AskedMutationList};
-pub use checks::check_list;
+pub use checks::{check_list, has_family};
 pub use refusal::MutationRefusal;
 pub use resolution::resolve;
 

@@ -1,0 +1,5 @@
+mod Keys
+mod Held
+mod Numbers
+mod Steps
+pub mod Laws

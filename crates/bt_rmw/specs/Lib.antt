@@ -1,0 +1,4 @@
+pub mod Columns
+pub mod Held
+pub mod Modified
+pub mod Rules
