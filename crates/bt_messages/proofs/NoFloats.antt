@@ -10,15 +10,18 @@ use Rattle.bt_rules.specs.declared.rule.Rule.{Rule}
 use Rattle.bt_rules.specs.declared.rule.Rule.TheOpen.{Rule-F}
 use Rattle.bt_rules.specs.declared.rule.Rule.TheFolds.{fold-roll-Rule, ind-Rule, map-Rule}
 use Rattle.bt_entry.specs.declared.table_info.TableInfo.{TableInfo}
+use Rattle.bt_types.specs.declared.cell.Cell.{Cell}
 use Rattle.serde_json.specs.Data.{Data, array, boolean, number, string, unsigned, object, Members, no_members, member, put}
 use Rattle.serde_json.specs.View.{items_of}
 use Rattle.serde_json.specs.Written.{has_float, items_have_float, members_have_float}
-use Rattle.bt_messages.specs.Values.{shown_label}
-use Rattle.bt_messages.specs.Lines.{is_nonempty, object_with, response_data, status_data, status_members, with_if, with_number, with_some, with_text}
-use Rattle.bt_messages.specs.Responses.{families_onto, is_nonzero, shown, shown_bytes, shown_families, shown_family, shown_node, shown_rule, shown_rules, shown_status, shown_statuses, shown_statuses_from, shown_stream, shown_table_name, shown_table_names, shown_chunk, shown_chunks, shown_name, shown_table, with_bytes, with_int64}
+use Rattle.bt_messages.specs.Values.{shown_bytes, shown_label, shown_name}
+use Rattle.bt_messages.specs.Lines.{is_nonempty, is_nonzero, object_with, response_data, status_data, status_members, with_bytes, with_if, with_int64, with_items, with_number, with_some, with_text}
+use Rattle.bt_messages.specs.Rows.{family_of, is_same_column, is_same_family, qualifier_of, runs_of, shown_cell, shown_column, shown_row}
+use Rattle.bt_messages.specs.Rows as rows
+use Rattle.bt_messages.specs.Responses.{families_onto, shown, shown_families, shown_family, shown_match, shown_node, shown_rule, shown_rules, shown_status, shown_statuses, shown_statuses_from, shown_stream, shown_table_name, shown_table_names, shown_chunk, shown_chunks, shown_table}
 use Rattle.bt_messages.specs.declared.response.EntryStatus.{EntryStatus}
 use Rattle.bt_messages.specs.declared.response.Response.{Response}
-use Rattle.bt_messages.specs.declared.response.Response.TheVariants.{CreateTable, GetTable, ListTables, DeleteTable, UpdateTable, ModifyColumnFamilies, DropRowRange, MutateRow, MutateRows, ReadRows}
+use Rattle.bt_messages.specs.declared.response.Response.TheVariants.{CreateTable, GetTable, ListTables, DeleteTable, UpdateTable, ModifyColumnFamilies, DropRowRange, MutateRow, MutateRows, ReadRows, CheckAndMutateRow, ReadModifyWriteRow}
 
 neither : (a b : Bool) → a ≡ false → b ≡ false → (a || b) ≡ false
 neither a b p q = rw p q
@@ -48,6 +51,14 @@ with_if_plain false k d ms p q = q
 with_some_plain : {A : Type 0} (k : List ℕ) (show : A → Data) (o : Option A) (ms : Members) → ((x : A) → has_float (show x) ≡ false) → members_have_float ms ≡ false → members_have_float (with_some k show o ms) ≡ false
 with_some_plain k show None ms p q = q
 with_some_plain k show (Some x) ms p q = put_plain k (show x) ms (p x) q
+
+-- no float is in a list of what is shown of each
+each_plain : {A : Type 0} (show : A → Data) (xs : List A) → ((x : A) → has_float (show x) ≡ false) → items_have_float (items_of (map show xs)) ≡ false
+each_plain show [] p = refl
+each_plain show (x ∷ xs) p = neither (has_float (show x)) (items_have_float (items_of (map show xs))) (p x) (each_plain show xs p)
+
+with_items_plain : {A : Type 0} (k : List ℕ) (show : A → Data) (xs : List A) (ms : Members) → ((x : A) → has_float (show x) ≡ false) → members_have_float ms ≡ false → members_have_float (with_items k (map show xs) ms) ≡ false
+with_items_plain k show xs ms p q = with_if_plain (is_nonempty (map show xs)) k (array (items_of (map show xs))) ms (each_plain show xs p) q
 
 members_plain : (code : ℕ) (text : List ℕ) → has_float (status_members code text) ≡ false
 members_plain code text =
@@ -104,12 +115,8 @@ shown_table_plain t =
 pub table_plain : (t : TableInfo) → has_float (response_data (shown_table t)) ≡ false
 table_plain t = neither (has_float (shown_table t)) false (shown_table_plain t) refl
 
-names_plain : (names : List (List ℕ)) → items_have_float (items_of (map shown_table_name names)) ≡ false
-names_plain [] = refl
-names_plain (n ∷ ns) = names_plain ns
-
 shown_names_plain : (names : List (List ℕ)) → has_float (shown_table_names names) ≡ false
-shown_names_plain names = with_if_plain (is_nonempty names) (codes "tables") (array (items_of (map shown_table_name names))) no_members (names_plain names) refl
+shown_names_plain names = with_if_plain (is_nonempty names) (codes "tables") (array (items_of (map shown_table_name names))) no_members (each_plain shown_table_name names (λ n. refl)) refl
 
 shown_status_plain : (index : ℕ) (s : EntryStatus) → has_float (shown_status index s) ≡ false
 shown_status_plain index s =
@@ -142,12 +149,35 @@ shown_chunk_plain c =
     let p6 : members_have_float family ≡ false = with_some_plain (codes "familyName") shown_name c.family labels (λ b. refl) p5 in
     with_if_plain c.commit (codes "commitRow") (boolean true) family refl p6
 
-items_plain : (cs : List Chunk) → items_have_float (items_of (map shown_chunk cs)) ≡ false
-items_plain [] = refl
-items_plain (c ∷ cs) = neither (has_float (shown_chunk c)) (items_have_float (items_of (map shown_chunk cs))) (shown_chunk_plain c) (items_plain cs)
-
 shown_chunks_plain : (cs : List Chunk) → has_float (shown_chunks cs) ≡ false
-shown_chunks_plain cs = with_if_plain (is_nonempty cs) (codes "chunks") (array (items_of (map shown_chunk cs))) no_members (items_plain cs) refl
+shown_chunks_plain cs = with_if_plain (is_nonempty cs) (codes "chunks") (array (items_of (map shown_chunk cs))) no_members (each_plain shown_chunk cs shown_chunk_plain) refl
+
+cell_plain : (c : Cell) → has_float (shown_cell c) ≡ false
+cell_plain c =
+    let value = with_bytes (codes "value") c.value no_members in
+    let p : members_have_float value ≡ false = with_if_plain (is_nonempty c.value) (codes "value") (shown_bytes c.value) no_members refl refl in
+    with_if_plain (is_nonzero (pos c.at)) (codes "timestampMicros") (string (signed_decimal (pos c.at))) value refl p
+
+column_plain : (cs : List Cell) → has_float (shown_column cs) ≡ false
+column_plain cs =
+    let named = with_bytes (codes "qualifier") (qualifier_of cs) no_members in
+    let p : members_have_float named ≡ false = with_if_plain (is_nonempty (qualifier_of cs)) (codes "qualifier") (shown_bytes (qualifier_of cs)) no_members refl refl in
+    with_items_plain (codes "cells") shown_cell cs named cell_plain p
+
+columns_plain : (cs : List Cell) → has_float (rows.shown_family cs) ≡ false
+columns_plain cs =
+    let named = with_text (codes "name") (family_of cs) no_members in
+    let p : members_have_float named ≡ false = with_if_plain (is_nonempty (family_of cs)) (codes "name") (string (family_of cs)) no_members refl refl in
+    with_items_plain (codes "columns") shown_column (runs_of is_same_column cs) named column_plain p
+
+row_plain : (key : List ℕ) (cs : List Cell) → has_float (shown_row key cs) ≡ false
+row_plain key cs =
+    let keyed = with_bytes (codes "key") key no_members in
+    let p : members_have_float keyed ≡ false = with_if_plain (is_nonempty key) (codes "key") (shown_bytes key) no_members refl refl in
+    with_items_plain (codes "families") rows.shown_family (runs_of is_same_family cs) keyed columns_plain p
+
+match_plain : (matched : Bool) → has_float (shown_match matched) ≡ false
+match_plain matched = with_if_plain matched (codes "predicateMatched") (boolean true) no_members refl refl
 
 pub shown_plain : (r : Response) → has_float (response_data (shown r)) ≡ false
 shown_plain (CreateTable t) = table_plain t
@@ -160,3 +190,7 @@ shown_plain DropRowRange = refl
 shown_plain MutateRow = refl
 shown_plain (MutateRows ss) = neither (has_float (shown_statuses ss)) false (shown_statuses_plain ss) refl
 shown_plain (ReadRows cs) = neither (has_float (shown_chunks cs)) false (shown_chunks_plain cs) refl
+shown_plain (CheckAndMutateRow matched) = neither (has_float (shown_match matched)) false (match_plain matched) refl
+shown_plain (ReadModifyWriteRow key cells) =
+    let row : has_float (object_with (codes "row") (shown_row key cells)) ≡ false = neither (has_float (shown_row key cells)) false (row_plain key cells) refl in
+    neither (has_float (object_with (codes "row") (shown_row key cells))) false row refl

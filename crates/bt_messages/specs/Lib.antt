@@ -1,4 +1,5 @@
 pub mod Lines
 pub mod Refusals
 pub mod Values
+pub mod Rows
 pub mod Responses

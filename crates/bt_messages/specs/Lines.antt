@@ -1,7 +1,10 @@
 -- Lines of replies: a JSON object without spaces, and a line feed.
-use Rattle.std.specs.Prelude.{ℕ, ◌==◌, Bool, not, List, [], ◌∷◌, ◌++◌, length, codes, Option, Some, None, if◌then◌else◌}
-use Rattle.serde_json.specs.Data.{Data, number, unsigned, string, object, Members, no_members, member, put}
+use Rattle.std.specs.Prelude.{ℕ, ◌==◌, Bool, true, not, List, [], ◌∷◌, ◌++◌, length, codes, Option, Some, None, ℤ, pos, negsuc, if◌then◌else◌}
+use Rattle.std.specs.Fmt.{signed_decimal}
+use Rattle.serde_json.specs.Data.{Data, array, number, unsigned, string, object, Members, no_members, member, put}
+use Rattle.serde_json.specs.View.{items_of}
 use Rattle.serde_json.specs.Written.{compact_text}
+use Rattle.bt_messages.specs.Values.{shown_bytes}
 
 -- a value as a line
 unfoldable pub line_of : Data → List ℕ
@@ -35,6 +38,23 @@ with_text k text ms = with_if (is_nonempty text) k (string text) ms
 -- the members, with the number at k unless it is 0
 abbrev pub with_number : List ℕ → ℕ → Members → Members
 with_number k n ms = with_if (not (n == 0)) k (number (unsigned n)) ms
+
+-- the members, with the bytes at k unless there are none
+abbrev pub with_bytes : List ℕ → List ℕ → Members → Members
+with_bytes k b ms = with_if (is_nonempty b) k (shown_bytes b) ms
+
+-- the number is not 0
+abbrev pub is_nonzero : ℤ → Bool
+is_nonzero (pos n) = not (n == 0)
+is_nonzero (negsuc n) = true
+
+-- the members, with the number as an int64 at k unless it is 0
+abbrev pub with_int64 : List ℕ → ℤ → Members → Members
+with_int64 k z ms = with_if (is_nonzero z) k (string (signed_decimal z)) ms
+
+-- the members, with the items as a list at k unless there are none
+abbrev pub with_items : List ℕ → List Data → Members → Members
+with_items k ds ms = with_if (is_nonempty ds) k (array (items_of ds)) ms
 
 -- a status (google.rpc.Status): the code (google.rpc.Code) and the message
 abbrev pub status_members : ℕ → List ℕ → Data

@@ -1,9 +1,39 @@
 -- The one table of refusals: the code (google.rpc.Code) and the text of each.
-use Rattle.std.specs.Prelude.{ℕ, List, ◌++◌, codes}
+use Rattle.std.specs.Prelude.{ℕ, Bool, true, false, List, ◌++◌, codes}
 use Rattle.std.specs.Str.Lossy.{utf8_lossy}
 use Rattle.bt_messages.specs.Lines.{line_of, status_data}
 use Rattle.bt_messages.specs.declared.refusal.Refusal.{Refusal}
-use Rattle.bt_messages.specs.declared.refusal.Refusal.TheVariants.{NotJson, NoEntries, BadTimeRange, BadGcRule, BadRetention, BadPageToken, NoModifications, ModificationWithoutKind, FlagNotTrue, FamilyExists, BadUpdateMask, NoTarget, FilterTooDeep, TooManyFilters, FilterTooLarge, TooManyPatterns, SinkUnderCondition, BadLabel, TwoLabels, NegativeCount, NegativeRowsLimit, BadPattern, PatternTooLarge, BadEnvelope, UnknownMethod, NotBuilt, BadName, TableNotFound, TableExists, BadRowKey, NoMutations, TooManyMutations, MutationWithoutKind, FamilyNotFound, QualifierTooLong, BadTimestamp, ValueTooLarge, BadFamilyName, TooManyFamilies, TooManyTables, ChangeTooLarge, OutOfMemory, DiskFailed, LineTooLong, ConnectionTooLong, LineNotEnded}
+use Rattle.bt_messages.specs.declared.refusal.Refusal.TheVariants.{NotJson, NoEntries, BadTimeRange, NoRules, TooManyRules, RuleWithoutKind, NotEightBytes, IncrementOutOfRange, BadGcRule, BadRetention, BadPageToken, NoModifications, ModificationWithoutKind, FlagNotTrue, FamilyExists, BadUpdateMask, NoTarget, FilterTooDeep, TooManyFilters, FilterTooLarge, TooManyPatterns, SinkUnderCondition, BadLabel, TwoLabels, NegativeCount, NegativeRowsLimit, BadPattern, PatternTooLarge, BadEnvelope, UnknownMethod, NotBuilt, BadName, TableNotFound, TableExists, BadRowKey, NoMutations, TooManyMutations, MutationWithoutKind, FamilyNotFound, QualifierTooLong, BadTimestamp, ValueTooLarge, BadFamilyName, TooManyFamilies, TooManyTables, ChangeTooLarge, OutOfMemory, DiskFailed, LineTooLong, ConnectionTooLong, LineNotEnded}
+
+-- it is about rows, cells or filters
+abbrev pub is_about_rows : Refusal → Bool
+is_about_rows BadRowKey = true
+is_about_rows NoEntries = true
+is_about_rows NoMutations = true
+is_about_rows TooManyMutations = true
+is_about_rows MutationWithoutKind = true
+is_about_rows FamilyNotFound = true
+is_about_rows QualifierTooLong = true
+is_about_rows BadTimestamp = true
+is_about_rows ValueTooLarge = true
+is_about_rows BadTimeRange = true
+is_about_rows NoRules = true
+is_about_rows TooManyRules = true
+is_about_rows RuleWithoutKind = true
+is_about_rows NotEightBytes = true
+is_about_rows IncrementOutOfRange = true
+is_about_rows FilterTooDeep = true
+is_about_rows TooManyFilters = true
+is_about_rows FilterTooLarge = true
+is_about_rows TooManyPatterns = true
+is_about_rows SinkUnderCondition = true
+is_about_rows BadLabel = true
+is_about_rows TwoLabels = true
+is_about_rows NegativeCount = true
+is_about_rows NegativeRowsLimit = true
+is_about_rows BadPattern = true
+is_about_rows PatternTooLarge = true
+is_about_rows r = false
 
 -- the code of a refusal
 abbrev pub refusal_code : Refusal → ℕ
@@ -24,6 +54,11 @@ refusal_code QualifierTooLong = 3
 refusal_code BadTimestamp = 3
 refusal_code ValueTooLarge = 3
 refusal_code BadTimeRange = 3
+refusal_code NoRules = 3
+refusal_code TooManyRules = 3
+refusal_code RuleWithoutKind = 3
+refusal_code NotEightBytes = 9
+refusal_code IncrementOutOfRange = 9
 refusal_code BadFamilyName = 3
 refusal_code BadGcRule = 3
 refusal_code BadRetention = 3
@@ -73,6 +108,11 @@ refusal_text QualifierTooLong = codes "qualifier too long"
 refusal_text BadTimestamp = codes "bad timestamp"
 refusal_text ValueTooLarge = codes "value too large"
 refusal_text BadTimeRange = codes "bad time range"
+refusal_text NoRules = codes "no rules"
+refusal_text TooManyRules = codes "too many rules"
+refusal_text RuleWithoutKind = codes "rule without kind"
+refusal_text NotEightBytes = codes "not eight bytes"
+refusal_text IncrementOutOfRange = codes "increment out of range"
 refusal_text BadFamilyName = codes "bad family name"
 refusal_text BadGcRule = codes "bad gc rule"
 refusal_text BadRetention = codes "bad retention"

@@ -1,7 +1,5 @@
 -- What a response shows, by the proto3 JSON mapping: members that are 0, empty or false are left out.
-use Rattle.std.specs.Prelude.{ℕ, ◌+◌, ◌==◌, Bool, true, not, List, [], ◌∷◌, map, codes, ℤ, pos, negsuc}
-use Rattle.std.specs.Fmt.{signed_decimal}
-use Rattle.std.specs.Str.Lossy.{utf8_lossy}
+use Rattle.std.specs.Prelude.{ℕ, ◌+◌, ◌==◌, Bool, true, not, List, [], ◌∷◌, map, codes, pos}
 use Rattle.bt_chunks.specs.declared.chunk.Chunk.{Chunk}
 use Rattle.bt_rules.specs.declared.family.Family.{Family}
 use Rattle.bt_rules.specs.declared.rule.Rule.{Rule}
@@ -11,11 +9,12 @@ use Rattle.bt_text.specs.Printed.{duration_printed}
 use Rattle.bt_entry.specs.declared.table_info.TableInfo.{TableInfo}
 use Rattle.serde_json.specs.Data.{Data, boolean, number, unsigned, string, array, object, item, no_items, Members, no_members, put}
 use Rattle.serde_json.specs.View.{items_of}
-use Rattle.bt_messages.specs.Values.{base64, shown_label}
-use Rattle.bt_messages.specs.Lines.{is_nonempty, object_with, status_members, with_if, with_number, with_some}
+use Rattle.bt_messages.specs.Values.{shown_bytes, shown_label, shown_name}
+use Rattle.bt_messages.specs.Lines.{is_nonempty, object_with, status_members, with_bytes, with_if, with_int64, with_number, with_some}
+use Rattle.bt_messages.specs.Rows.{shown_row}
 use Rattle.bt_messages.specs.declared.response.EntryStatus.{EntryStatus}
 use Rattle.bt_messages.specs.declared.response.Response.{Response}
-use Rattle.bt_messages.specs.declared.response.Response.TheVariants.{CreateTable, GetTable, ListTables, DeleteTable, UpdateTable, ModifyColumnFamilies, DropRowRange, MutateRow, MutateRows, ReadRows}
+use Rattle.bt_messages.specs.declared.response.Response.TheVariants.{CreateTable, GetTable, ListTables, DeleteTable, UpdateTable, ModifyColumnFamilies, DropRowRange, MutateRow, MutateRows, ReadRows, CheckAndMutateRow, ReadModifyWriteRow}
 
 -- a span of time in microseconds (google.protobuf.Duration)
 abbrev pub shown_duration : ℕ → Data
@@ -68,27 +67,6 @@ shown_table_name name = object_with (codes "name") (string name)
 abbrev pub shown_table_names : List (List ℕ) → Data
 shown_table_names names = object (with_if (is_nonempty names) (codes "tables") (array (items_of (map shown_table_name names))) no_members)
 
--- the members, with the bytes at k unless there are none
-abbrev pub with_bytes : List ℕ → List ℕ → Members → Members
-with_bytes k b ms = with_if (is_nonempty b) k (string (base64 b)) ms
-
--- the number is not 0
-abbrev pub is_nonzero : ℤ → Bool
-is_nonzero (pos n) = not (n == 0)
-is_nonzero (negsuc n) = true
-
--- the members, with the number as an int64 at k unless it is 0
-abbrev pub with_int64 : List ℕ → ℤ → Members → Members
-with_int64 k z ms = with_if (is_nonzero z) k (string (signed_decimal z)) ms
-
--- a name; bytes that are not UTF-8 stand as U+FFFD
-abbrev pub shown_name : List ℕ → Data
-shown_name b = string (utf8_lossy b)
-
--- bytes, as a string of base64
-abbrev pub shown_bytes : List ℕ → Data
-shown_bytes b = string (base64 b)
-
 -- a chunk (google.bigtable.v2.ReadRowsResponse.CellChunk)
 abbrev pub shown_chunk : Chunk → Data
 shown_chunk c =
@@ -118,6 +96,10 @@ shown_statuses_from index (s ∷ ss) = shown_status index s ∷ shown_statuses_f
 abbrev pub shown_statuses : List EntryStatus → Data
 shown_statuses ss = object (with_if (is_nonempty ss) (codes "entries") (array (items_of (shown_statuses_from 0 ss))) no_members)
 
+-- whether a condition held (google.bigtable.v2.CheckAndMutateRowResponse)
+abbrev pub shown_match : Bool → Data
+shown_match matched = object (with_if matched (codes "predicateMatched") (boolean true) no_members)
+
 -- what a response shows
 abbrev pub shown : Response → Data
 shown (CreateTable t) = shown_table t
@@ -130,3 +112,5 @@ shown DropRowRange = object no_members
 shown MutateRow = object no_members
 shown (MutateRows ss) = shown_statuses ss
 shown (ReadRows cs) = shown_chunks cs
+shown (CheckAndMutateRow matched) = shown_match matched
+shown (ReadModifyWriteRow key cells) = object_with (codes "row") (shown_row key cells)

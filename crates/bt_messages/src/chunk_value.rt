@@ -1,9 +1,9 @@
 //! The JSON of chunks.
 ghost use Rattle.std.specs.Prelude.{◌≡◌, IfOk, OnOk, codes, map};
 ghost use Rattle.serde_json.specs.View.{view, members_view};
-ghost use Rattle.bt_messages.specs.Lines.{is_nonempty, with_some};
-ghost use Rattle.bt_messages.specs.Values.{shown_label};
-ghost use Rattle.bt_messages.specs.Responses.{shown_bytes, shown_chunk, shown_chunks, shown_name, with_bytes};
+ghost use Rattle.bt_messages.specs.Lines.{with_bytes, with_some};
+ghost use Rattle.bt_messages.specs.Values.{shown_bytes, shown_label, shown_name};
+ghost use Rattle.bt_messages.specs.Responses.{shown_chunk, shown_chunks};
 
 use crate::members::{put_bytes, put_int64, put_number, put_true};
 use bt_base::{Blob, OutOfMemory};
@@ -41,9 +41,9 @@ fn chunk_value(alloc: Global, chunk: &Chunk) -> Result<Value, OutOfMemory>
 {
     let mut members = Map::new(alloc);
     put_number(alloc, &mut members, "valueSize", chunk.size)?;
-    put_some_bytes(alloc, &mut members, "value", &chunk.value)?;
+    put_blob(alloc, &mut members, "value", &chunk.value)?;
     put_int64(alloc, &mut members, "timestampMicros", chunk.at)?;
-    put_some_bytes(alloc, &mut members, "rowKey", &chunk.key)?;
+    put_blob(alloc, &mut members, "rowKey", &chunk.key)?;
     put_qualifier(alloc, &mut members, &chunk.qualifier)?;
     put_label(alloc, &mut members, &chunk.label)?;
     put_family(alloc, &mut members, &chunk.family)?;
@@ -51,7 +51,7 @@ fn chunk_value(alloc: Global, chunk: &Chunk) -> Result<Value, OutOfMemory>
     Ok(Value::Object(members))
 }
 
-fn put_some_bytes(
+fn put_blob(
     alloc: Global,
     members: &mut Map<String, Value>,
     name: &str,
@@ -60,14 +60,7 @@ fn put_some_bytes(
     ensures { OnOk result (members_view members.new.entries
         ≡ with_bytes name.now bytes.now (members_view members.old.entries)) }
 {
-    let asked = has_bytes(bytes);
-    put_bytes(alloc, members, asked, name, bytes.bytes())
-}
-
-fn has_bytes(bytes: &Blob) -> bool
-    ensures { result ≡ is_nonempty bytes.now }
-{
-    !bytes.bytes().is_empty()
+    put_bytes(alloc, members, name, bytes.bytes())
 }
 
 // The wrapper is printed also where the qualifier is empty.

@@ -8,6 +8,7 @@ mod named_refusal;
 mod printing;
 mod refusal;
 mod response;
+mod row_value;
 mod rule_value;
 mod status_value;
 mod table_value;

@@ -1,10 +1,8 @@
 //! Members of JSON objects that are left out where they say nothing.
-ghost use Rattle.std.specs.Prelude.{◌≡◌, true, OnOk};
+ghost use Rattle.std.specs.Prelude.{◌≡◌, true, map, OnOk};
 ghost use Rattle.serde_json.specs.Data.{boolean, string};
-ghost use Rattle.serde_json.specs.View.{members_view};
-ghost use Rattle.bt_messages.specs.Values.{base64};
-ghost use Rattle.bt_messages.specs.Lines.{with_if, with_number};
-ghost use Rattle.bt_messages.specs.Responses.{with_int64};
+ghost use Rattle.serde_json.specs.View.{members_view, view};
+ghost use Rattle.bt_messages.specs.Lines.{with_bytes, with_if, with_int64, with_items, with_number};
 
 use bt_base::OutOfMemory;
 use bt_text::{print_bytes, print_int64};
@@ -43,18 +41,18 @@ pub(crate) fn put_text(
     Ok(())
 }
 
+// Bytes, unless there are none.
 #[tactic(auto, unfolding(crate::specs::Values::base64))]
 pub(crate) fn put_bytes(
     alloc: Global,
     members: &mut Map<String, Value>,
-    asked: bool,
     name: &str,
     bytes: &[u8],
 ) -> Result<(), OutOfMemory>
     ensures { OnOk result (members_view members.new.entries
-        ≡ with_if asked name.now (string (base64 bytes.now)) (members_view members.old.entries)) }
+        ≡ with_bytes name.now bytes.now (members_view members.old.entries)) }
 {
-    if asked {
+    if !bytes.is_empty() {
         let text = print_bytes(alloc, bytes)?;
         put(members, alloc, name, text)?;
     }
@@ -90,6 +88,22 @@ pub(crate) fn put_number(
 {
     if number != 0 {
         put(members, alloc, name, Value::from(number))?;
+    }
+    Ok(())
+}
+
+// Items, unless there are none.
+pub(crate) fn put_items(
+    alloc: Global,
+    members: &mut Map<String, Value>,
+    name: &str,
+    items: Vec<Value>,
+) -> Result<(), OutOfMemory>
+    ensures { OnOk result (members_view members.new.entries
+        ≡ with_items name.now (map view items.items) (members_view members.old.entries)) }
+{
+    if !items.is_empty() {
+        put(members, alloc, name, Value::Array(items))?;
     }
     Ok(())
 }

@@ -1,16 +1,20 @@
 //! The lines of responses and statuses.
-ghost use Rattle.std.specs.Prelude.{◌≡◌, ◌++◌, IfOk};
+ghost use Rattle.std.specs.Prelude.{◌≡◌, ◌++◌, IfOk, codes};
 ghost use Rattle.serde_json.specs.View.{view};
-ghost use Rattle.bt_messages.specs.Lines.{line_of, ok_line, response_data, status_data};
-ghost use Rattle.bt_messages.specs.Responses.{shown, shown_table};
+ghost use Rattle.bt_messages.specs.Lines.{line_of, object_with, ok_line, response_data, status_data};
+ghost use Rattle.bt_messages.specs.Responses.{shown, shown_match, shown_table};
+ghost use Rattle.bt_messages.specs.Rows.{shown_row};
 
 use crate::chunk_value::chunks_value;
 use crate::lines::{line, ok_line};
+use crate::members::put_true;
 use crate::response::Response;
+use crate::row_value::row_value;
 use crate::status_value::{status_members, statuses_value};
 use crate::table_value::{table_names_value, table_value};
 use bt_base::{Blob, OutOfMemory};
 use bt_entry::TableInfo;
+use bt_types::{Cell, RowKey};
 use serde_json::{Map, Value, json};
 use std::alloc::Global;
 
@@ -97,7 +101,25 @@ fn shown_value(alloc: Global, response: &Response) -> Result<Value, OutOfMemory>
         Response::MutateRow => Ok(Value::Object(Map::new(alloc))),
         Response::MutateRows(statuses) => statuses_value(alloc, statuses.items()),
         Response::ReadRows(chunks) => chunks_value(alloc, chunks),
+        Response::CheckAndMutateRow(matched) => match_value(alloc, *matched),
+        Response::ReadModifyWriteRow { key, cells } => row_response(alloc, key, cells.items()),
     }
+}
+
+fn match_value(alloc: Global, matched: bool) -> Result<Value, OutOfMemory>
+    ensures { IfOk result (λ v. view v ≡ shown_match matched) }
+{
+    let mut members = Map::new(alloc);
+    put_true(alloc, &mut members, matched, "predicateMatched")?;
+    Ok(Value::Object(members))
+}
+
+fn row_response(alloc: Global, key: &RowKey, cells: &[Cell]) -> Result<Value, OutOfMemory>
+    ensures { IfOk result (λ v. view v ≡ object_with (codes "row") (shown_row key.now cells.now)) }
+{
+    let row = row_value(alloc, key, cells)?;
+    let value = json!(in alloc; {"row": row})?;
+    Ok(value)
 }
 
 fn status_value(alloc: Global, code: u8, text: &str) -> Result<Value, OutOfMemory>

@@ -37,6 +37,16 @@ pub enum Refusal {
     ValueTooLarge,
     /// The start or the end of a range of times is negative.
     BadTimeRange,
+    /// The request has no rules (`google.bigtable.v2.ReadModifyWriteRowRequest.rules`).
+    NoRules,
+    /// The request has more than 100,000 rules.
+    TooManyRules,
+    /// A rule has neither `appendValue` nor `incrementAmount`.
+    RuleWithoutKind,
+    /// A value that a rule increments does not have eight bytes.
+    NotEightBytes,
+    /// A sum that a rule asks for is outside -2^63 to 2^63 - 1.
+    IncrementOutOfRange,
     /// The name of a family to be made is not of 1 to 64 of the characters `-_.a-zA-Z0-9`.
     BadFamilyName,
     /// A collection rule has a number below 1, an age below a millisecond, a list without rules, a rule
@@ -98,85 +108,85 @@ pub enum Refusal {
     LineNotEnded,
 }
 
+// The line of a refusal with that code and text.
+macro_rules! refused {
+    ($code:literal, $text:literal) => {
+        concat!("{\"status\":{\"code\":", $code, ",\"message\":\"", $text, "\"}}\n").as_bytes()
+    };
+}
+
 impl Refusal {
-    ghost use Rattle.std.specs.Prelude.{◌≡◌};
-    ghost use Rattle.bt_messages.specs.Refusals.{refusal_code, refusal_line, refusal_text};
+    ghost use Rattle.std.specs.Prelude.{◌≡◌, true};
+    ghost use Rattle.bt_messages.specs.Refusals.{is_about_rows, refusal_code, refusal_line, refusal_text};
 
     /// The one line of a refused request, with its line feed. It takes no memory.
-    #[tactic(auto, unfolding(crate::proofs::LineTexts::line_on_literals))]
+    #[tactic(auto, using(crate::proofs::LineTexts::line_from), unfolding(crate::proofs::LineTexts::digits_on_literals))]
     pub fn line(self) -> &'static [u8]
         ensures { result.now ≡ refusal_line self }
     {
         match self {
-            Refusal::NotJson => b"{\"status\":{\"code\":3,\"message\":\"not json\"}}\n",
-            Refusal::BadEnvelope => b"{\"status\":{\"code\":3,\"message\":\"bad envelope\"}}\n",
-            Refusal::UnknownMethod =>
-                b"{\"status\":{\"code\":12,\"message\":\"unknown method\"}}\n",
-            Refusal::NotBuilt => b"{\"status\":{\"code\":12,\"message\":\"not built\"}}\n",
-            Refusal::BadName => b"{\"status\":{\"code\":3,\"message\":\"bad name\"}}\n",
-            Refusal::TableNotFound =>
-                b"{\"status\":{\"code\":5,\"message\":\"table not found\"}}\n",
-            Refusal::TableExists => b"{\"status\":{\"code\":6,\"message\":\"table exists\"}}\n",
-            Refusal::BadRowKey => b"{\"status\":{\"code\":3,\"message\":\"bad row key\"}}\n",
-            Refusal::NoEntries => b"{\"status\":{\"code\":3,\"message\":\"no entries\"}}\n",
-            Refusal::NoMutations => b"{\"status\":{\"code\":3,\"message\":\"no mutations\"}}\n",
-            Refusal::TooManyMutations =>
-                b"{\"status\":{\"code\":3,\"message\":\"too many mutations\"}}\n",
-            Refusal::MutationWithoutKind =>
-                b"{\"status\":{\"code\":3,\"message\":\"mutation without kind\"}}\n",
-            Refusal::FamilyNotFound =>
-                b"{\"status\":{\"code\":5,\"message\":\"family not found\"}}\n",
-            Refusal::QualifierTooLong =>
-                b"{\"status\":{\"code\":3,\"message\":\"qualifier too long\"}}\n",
-            Refusal::BadTimestamp => b"{\"status\":{\"code\":3,\"message\":\"bad timestamp\"}}\n",
-            Refusal::ValueTooLarge =>
-                b"{\"status\":{\"code\":3,\"message\":\"value too large\"}}\n",
-            Refusal::BadTimeRange => b"{\"status\":{\"code\":3,\"message\":\"bad time range\"}}\n",
-            Refusal::BadFamilyName =>
-                b"{\"status\":{\"code\":3,\"message\":\"bad family name\"}}\n",
-            Refusal::BadGcRule => b"{\"status\":{\"code\":3,\"message\":\"bad gc rule\"}}\n",
-            Refusal::BadRetention => b"{\"status\":{\"code\":3,\"message\":\"bad retention\"}}\n",
-            Refusal::BadPageToken => b"{\"status\":{\"code\":3,\"message\":\"bad page token\"}}\n",
-            Refusal::NoModifications =>
-                b"{\"status\":{\"code\":3,\"message\":\"no modifications\"}}\n",
-            Refusal::ModificationWithoutKind =>
-                b"{\"status\":{\"code\":3,\"message\":\"modification without kind\"}}\n",
-            Refusal::FlagNotTrue => b"{\"status\":{\"code\":3,\"message\":\"flag not true\"}}\n",
-            Refusal::FamilyExists => b"{\"status\":{\"code\":6,\"message\":\"family exists\"}}\n",
-            Refusal::BadUpdateMask =>
-                b"{\"status\":{\"code\":3,\"message\":\"bad update mask\"}}\n",
-            Refusal::NoTarget => b"{\"status\":{\"code\":3,\"message\":\"no target\"}}\n",
-            Refusal::FilterTooDeep =>
-                b"{\"status\":{\"code\":3,\"message\":\"filter too deep\"}}\n",
-            Refusal::TooManyFilters =>
-                b"{\"status\":{\"code\":3,\"message\":\"too many filters\"}}\n",
-            Refusal::FilterTooLarge =>
-                b"{\"status\":{\"code\":3,\"message\":\"filter too large\"}}\n",
-            Refusal::TooManyPatterns =>
-                b"{\"status\":{\"code\":3,\"message\":\"too many patterns\"}}\n",
-            Refusal::SinkUnderCondition =>
-                b"{\"status\":{\"code\":3,\"message\":\"sink under condition\"}}\n",
-            Refusal::BadLabel => b"{\"status\":{\"code\":3,\"message\":\"bad label\"}}\n",
-            Refusal::TwoLabels =>
-                b"{\"status\":{\"code\":3,\"message\":\"two labels in a chain\"}}\n",
-            Refusal::NegativeCount => b"{\"status\":{\"code\":3,\"message\":\"negative count\"}}\n",
-            Refusal::NegativeRowsLimit =>
-                b"{\"status\":{\"code\":3,\"message\":\"negative rowsLimit\"}}\n",
-            Refusal::BadPattern => b"{\"status\":{\"code\":3,\"message\":\"bad pattern\"}}\n",
-            Refusal::PatternTooLarge =>
-                b"{\"status\":{\"code\":3,\"message\":\"pattern too large\"}}\n",
-            Refusal::TooManyFamilies =>
-                b"{\"status\":{\"code\":9,\"message\":\"too many families\"}}\n",
-            Refusal::TooManyTables =>
-                b"{\"status\":{\"code\":9,\"message\":\"too many tables\"}}\n",
-            Refusal::ChangeTooLarge =>
-                b"{\"status\":{\"code\":9,\"message\":\"change too large\"}}\n",
-            Refusal::OutOfMemory => b"{\"status\":{\"code\":8,\"message\":\"out of memory\"}}\n",
-            Refusal::DiskFailed => b"{\"status\":{\"code\":14,\"message\":\"disk failed\"}}\n",
-            Refusal::LineTooLong => b"{\"status\":{\"code\":3,\"message\":\"line too long\"}}\n",
-            Refusal::ConnectionTooLong =>
-                b"{\"status\":{\"code\":3,\"message\":\"connection too long\"}}\n",
-            Refusal::LineNotEnded => b"{\"status\":{\"code\":3,\"message\":\"line not ended\"}}\n",
+            Refusal::NotJson => refused!(3, "not json"),
+            Refusal::BadEnvelope => refused!(3, "bad envelope"),
+            Refusal::UnknownMethod => refused!(12, "unknown method"),
+            Refusal::NotBuilt => refused!(12, "not built"),
+            Refusal::BadName => refused!(3, "bad name"),
+            Refusal::TableNotFound => refused!(5, "table not found"),
+            Refusal::TableExists => refused!(6, "table exists"),
+            Refusal::BadFamilyName => refused!(3, "bad family name"),
+            Refusal::BadGcRule => refused!(3, "bad gc rule"),
+            Refusal::BadRetention => refused!(3, "bad retention"),
+            Refusal::BadPageToken => refused!(3, "bad page token"),
+            Refusal::NoModifications => refused!(3, "no modifications"),
+            Refusal::ModificationWithoutKind => refused!(3, "modification without kind"),
+            Refusal::FlagNotTrue => refused!(3, "flag not true"),
+            Refusal::FamilyExists => refused!(6, "family exists"),
+            Refusal::BadUpdateMask => refused!(3, "bad update mask"),
+            Refusal::NoTarget => refused!(3, "no target"),
+            Refusal::TooManyFamilies => refused!(9, "too many families"),
+            Refusal::TooManyTables => refused!(9, "too many tables"),
+            Refusal::ChangeTooLarge => refused!(9, "change too large"),
+            Refusal::OutOfMemory => refused!(8, "out of memory"),
+            Refusal::DiskFailed => refused!(14, "disk failed"),
+            Refusal::LineTooLong => refused!(3, "line too long"),
+            Refusal::ConnectionTooLong => refused!(3, "connection too long"),
+            Refusal::LineNotEnded => refused!(3, "line not ended"),
+            _ => self.line_about_rows(),
+        }
+    }
+
+    #[tactic(auto, using(crate::proofs::LineTexts::line_from), unfolding(crate::proofs::LineTexts::digits_on_literals))]
+    fn line_about_rows(self) -> &'static [u8]
+        requires { is_about_rows self ≡ true }
+        ensures { result.now ≡ refusal_line self }
+    {
+        match self {
+            Refusal::BadRowKey => refused!(3, "bad row key"),
+            Refusal::NoEntries => refused!(3, "no entries"),
+            Refusal::NoMutations => refused!(3, "no mutations"),
+            Refusal::TooManyMutations => refused!(3, "too many mutations"),
+            Refusal::MutationWithoutKind => refused!(3, "mutation without kind"),
+            Refusal::FamilyNotFound => refused!(5, "family not found"),
+            Refusal::QualifierTooLong => refused!(3, "qualifier too long"),
+            Refusal::BadTimestamp => refused!(3, "bad timestamp"),
+            Refusal::ValueTooLarge => refused!(3, "value too large"),
+            Refusal::BadTimeRange => refused!(3, "bad time range"),
+            Refusal::NoRules => refused!(3, "no rules"),
+            Refusal::TooManyRules => refused!(3, "too many rules"),
+            Refusal::RuleWithoutKind => refused!(3, "rule without kind"),
+            Refusal::NotEightBytes => refused!(9, "not eight bytes"),
+            Refusal::IncrementOutOfRange => refused!(9, "increment out of range"),
+            Refusal::FilterTooDeep => refused!(3, "filter too deep"),
+            Refusal::TooManyFilters => refused!(3, "too many filters"),
+            Refusal::FilterTooLarge => refused!(3, "filter too large"),
+            Refusal::TooManyPatterns => refused!(3, "too many patterns"),
+            Refusal::SinkUnderCondition => refused!(3, "sink under condition"),
+            Refusal::BadLabel => refused!(3, "bad label"),
+            Refusal::TwoLabels => refused!(3, "two labels in a chain"),
+            Refusal::NegativeCount => refused!(3, "negative count"),
+            Refusal::NegativeRowsLimit => refused!(3, "negative rowsLimit"),
+            Refusal::BadPattern => refused!(3, "bad pattern"),
+            Refusal::PatternTooLarge => refused!(3, "pattern too large"),
+            _ => unreachable!(),
         }
     }
 
@@ -185,52 +195,17 @@ impl Refusal {
         ensures { result ≡ refusal_code self }
     {
         match self {
-            Refusal::NotJson => 3,
-            Refusal::BadEnvelope => 3,
-            Refusal::UnknownMethod => 12,
-            Refusal::NotBuilt => 12,
-            Refusal::BadName => 3,
-            Refusal::TableNotFound => 5,
-            Refusal::TableExists => 6,
-            Refusal::BadRowKey => 3,
-            Refusal::NoEntries => 3,
-            Refusal::NoMutations => 3,
-            Refusal::TooManyMutations => 3,
-            Refusal::MutationWithoutKind => 3,
-            Refusal::FamilyNotFound => 5,
-            Refusal::QualifierTooLong => 3,
-            Refusal::BadTimestamp => 3,
-            Refusal::ValueTooLarge => 3,
-            Refusal::BadTimeRange => 3,
-            Refusal::BadFamilyName => 3,
-            Refusal::BadGcRule => 3,
-            Refusal::BadRetention => 3,
-            Refusal::BadPageToken => 3,
-            Refusal::NoModifications => 3,
-            Refusal::ModificationWithoutKind => 3,
-            Refusal::FlagNotTrue => 3,
-            Refusal::FamilyExists => 6,
-            Refusal::BadUpdateMask => 3,
-            Refusal::NoTarget => 3,
-            Refusal::FilterTooDeep => 3,
-            Refusal::TooManyFilters => 3,
-            Refusal::FilterTooLarge => 3,
-            Refusal::TooManyPatterns => 3,
-            Refusal::SinkUnderCondition => 3,
-            Refusal::BadLabel => 3,
-            Refusal::TwoLabels => 3,
-            Refusal::NegativeCount => 3,
-            Refusal::NegativeRowsLimit => 3,
-            Refusal::BadPattern => 3,
-            Refusal::PatternTooLarge => 3,
-            Refusal::TooManyFamilies => 9,
-            Refusal::TooManyTables => 9,
-            Refusal::ChangeTooLarge => 9,
+            Refusal::TableNotFound | Refusal::FamilyNotFound => 5,
+            Refusal::TableExists | Refusal::FamilyExists => 6,
             Refusal::OutOfMemory => 8,
+            Refusal::NotEightBytes
+            | Refusal::IncrementOutOfRange
+            | Refusal::TooManyFamilies
+            | Refusal::TooManyTables
+            | Refusal::ChangeTooLarge => 9,
+            Refusal::UnknownMethod | Refusal::NotBuilt => 12,
             Refusal::DiskFailed => 14,
-            Refusal::LineTooLong => 3,
-            Refusal::ConnectionTooLong => 3,
-            Refusal::LineNotEnded => 3,
+            _ => 3,
         }
     }
 
@@ -246,16 +221,6 @@ impl Refusal {
             Refusal::BadName => "bad name",
             Refusal::TableNotFound => "table not found",
             Refusal::TableExists => "table exists",
-            Refusal::BadRowKey => "bad row key",
-            Refusal::NoEntries => "no entries",
-            Refusal::NoMutations => "no mutations",
-            Refusal::TooManyMutations => "too many mutations",
-            Refusal::MutationWithoutKind => "mutation without kind",
-            Refusal::FamilyNotFound => "family not found",
-            Refusal::QualifierTooLong => "qualifier too long",
-            Refusal::BadTimestamp => "bad timestamp",
-            Refusal::ValueTooLarge => "value too large",
-            Refusal::BadTimeRange => "bad time range",
             Refusal::BadFamilyName => "bad family name",
             Refusal::BadGcRule => "bad gc rule",
             Refusal::BadRetention => "bad retention",
@@ -266,6 +231,38 @@ impl Refusal {
             Refusal::FamilyExists => "family exists",
             Refusal::BadUpdateMask => "bad update mask",
             Refusal::NoTarget => "no target",
+            Refusal::TooManyFamilies => "too many families",
+            Refusal::TooManyTables => "too many tables",
+            Refusal::ChangeTooLarge => "change too large",
+            Refusal::OutOfMemory => "out of memory",
+            Refusal::DiskFailed => "disk failed",
+            Refusal::LineTooLong => "line too long",
+            Refusal::ConnectionTooLong => "connection too long",
+            Refusal::LineNotEnded => "line not ended",
+            _ => self.text_about_rows(),
+        }
+    }
+
+    fn text_about_rows(self) -> &'static str
+        requires { is_about_rows self ≡ true }
+        ensures { result.now ≡ refusal_text self }
+    {
+        match self {
+            Refusal::BadRowKey => "bad row key",
+            Refusal::NoEntries => "no entries",
+            Refusal::NoMutations => "no mutations",
+            Refusal::TooManyMutations => "too many mutations",
+            Refusal::MutationWithoutKind => "mutation without kind",
+            Refusal::FamilyNotFound => "family not found",
+            Refusal::QualifierTooLong => "qualifier too long",
+            Refusal::BadTimestamp => "bad timestamp",
+            Refusal::ValueTooLarge => "value too large",
+            Refusal::BadTimeRange => "bad time range",
+            Refusal::NoRules => "no rules",
+            Refusal::TooManyRules => "too many rules",
+            Refusal::RuleWithoutKind => "rule without kind",
+            Refusal::NotEightBytes => "not eight bytes",
+            Refusal::IncrementOutOfRange => "increment out of range",
             Refusal::FilterTooDeep => "filter too deep",
             Refusal::TooManyFilters => "too many filters",
             Refusal::FilterTooLarge => "filter too large",
@@ -277,14 +274,7 @@ impl Refusal {
             Refusal::NegativeRowsLimit => "negative rowsLimit",
             Refusal::BadPattern => "bad pattern",
             Refusal::PatternTooLarge => "pattern too large",
-            Refusal::TooManyFamilies => "too many families",
-            Refusal::TooManyTables => "too many tables",
-            Refusal::ChangeTooLarge => "change too large",
-            Refusal::OutOfMemory => "out of memory",
-            Refusal::DiskFailed => "disk failed",
-            Refusal::LineTooLong => "line too long",
-            Refusal::ConnectionTooLong => "connection too long",
-            Refusal::LineNotEnded => "line not ended",
+            _ => unreachable!(),
         }
     }
 }

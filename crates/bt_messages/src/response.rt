@@ -2,7 +2,7 @@
 use bt_base::{ListOf, OutOfMemory, Plain};
 use bt_chunks::ChunkList;
 use bt_entry::TableInfo;
-use bt_types::{TableName, Text};
+use bt_types::{CellList, RowKey, TableName, Text};
 use std::alloc::Global;
 
 /// Names of tables.
@@ -51,4 +51,10 @@ pub enum Response {
     MutateRows(EntryStatusList),
     /// Some of the chunks of a read (`google.bigtable.v2.ReadRowsResponse`).
     ReadRows(ChunkList),
+    /// Whether the condition held (`google.bigtable.v2.CheckAndMutateRowResponse`).
+    CheckAndMutateRow(bool),
+    /// The cells that were written, in order of family and qualifier
+    /// (`google.bigtable.v2.ReadModifyWriteRowResponse`). Labels are not shown: what is written has
+    /// none.
+    ReadModifyWriteRow { key: RowKey, cells: CellList },
 }

@@ -1,8 +1,8 @@
-//! The line of a response, as written by hand.
+//! The lines of responses, as written by hand.
 use crate::{Response, response_line};
 use bt_base::Blob;
 use bt_chunks::{Chunk, ChunkList};
-use bt_types::Label;
+use bt_types::{Cell, CellList, FamilyName, Label, Micros, Qualifier, RowKey};
 use std::alloc::Global;
 use std::test::Fail;
 
@@ -47,5 +47,44 @@ fn chunks_are_printed(rt: HostRuntime) -> Result<(), Fail> {
 "#
             .as_slice()
     );
+    Ok(())
+}
+
+// A cell of column q of family f that is the number 1.
+fn counted(alloc: Global) -> Result<Cell, Fail> {
+    Ok(Cell::plain(
+        FamilyName::new(alloc, "f")?.ok_or("family")?,
+        Qualifier::new(alloc, b"q")?.ok_or("qualifier")?,
+        Micros::new(5_000_000).ok_or("time")?,
+        Blob::new(alloc, b"\0\0\0\0\0\0\0\x01")?,
+    ))
+}
+
+#[test]
+fn a_row_is_printed(rt: HostRuntime) -> Result<(), Fail> {
+    let alloc = rt.alloc();
+    let key = RowKey::new(alloc, b"r")?.ok_or("key")?;
+    let mut cells = CellList::new(alloc);
+    cells.push(counted(alloc)?)?;
+    let line = response_line(alloc, &Response::ReadModifyWriteRow { key, cells })?;
+    assert_eq!(rt;
+        line.bytes(),
+        br#"{"response":{"row":{"families":[{"columns":[{"cells":[{"timestampMicros":"5000000","value":"AAAAAAAAAAE="}],"qualifier":"cQ=="}],"name":"f"}],"key":"cg=="}}}
+"#
+            .as_slice()
+    );
+    Ok(())
+}
+
+#[test]
+fn a_match_is_printed(rt: HostRuntime) -> Result<(), Fail> {
+    let alloc = rt.alloc();
+    let held = response_line(alloc, &Response::CheckAndMutateRow(true))?;
+    assert_eq!(rt;
+        held.bytes(),
+        b"{\"response\":{\"predicateMatched\":true}}\n".as_slice()
+    );
+    let failed = response_line(alloc, &Response::CheckAndMutateRow(false))?;
+    assert_eq!(rt; failed.bytes(), b"{\"response\":{}}\n".as_slice());
     Ok(())
 }

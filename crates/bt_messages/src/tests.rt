@@ -30,6 +30,10 @@ fn refusals_have_their_codes_and_texts(rt: HostRuntime) {
             r#"{"status":{"code":9,"message":"too many tables"}}"#,
         ),
         (
+            Refusal::IncrementOutOfRange,
+            r#"{"status":{"code":9,"message":"increment out of range"}}"#,
+        ),
+        (
             Refusal::OutOfMemory,
             r#"{"status":{"code":8,"message":"out of memory"}}"#,
         ),
