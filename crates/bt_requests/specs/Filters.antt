@@ -1,5 +1,5 @@
 -- Filters, where no member is bad (google.bigtable.v2.RowFilter).
-use Rattle.std.specs.Prelude.{ℕ, zero, suc, List, [], ◌∷◌, codes, Option, Some, None}
+use Rattle.std.specs.Prelude.{ℕ, zero, suc, List, [], ◌∷◌, codes, Option, Some, None, option_map}
 use Rattle.serde_json.specs.Data.{Data, Items, no_items, item}
 use Rattle.bt_filter.specs.declared.asked.AskedFilter.{AskedFilter}
 use Rattle.bt_filter.specs.declared.asked.AskedFilter.TheVariants as asked
@@ -104,3 +104,7 @@ filter_in (suc levels) d = kind_in (filter_in levels) d
 -- the filter of a request, unset where it has none. A filter of more than 20 levels is refused for its depth before anything else in it is looked at, so what is below 21 does not matter.
 abbrev pub filter_at : Data → AskedFilter
 filter_at d = choose (value_at (codes "filter") d) (filter_in 21) asked.Unset
+
+-- the predicate of a request; none where it has none
+abbrev pub predicate_at : Data → Option AskedFilter
+predicate_at d = option_map (filter_in 21) (value_at (codes "predicateFilter") d)

@@ -5,5 +5,7 @@ pub mod Bounds
 pub mod Filters
 pub mod RowSets
 pub mod Readers
+pub mod CheckAndMutate
+pub mod ReadModifyWrite
 pub mod Refusals
 pub mod Requests

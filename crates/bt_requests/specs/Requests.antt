@@ -1,6 +1,8 @@
 -- What a request asks for, or why it is refused.
 use Rattle.std.specs.Prelude.{ℕ, Option, Some, None, Result, Ok, Err}
 use Rattle.serde_json.specs.Data.{Data}
+use Rattle.bt_requests.specs.CheckAndMutate.{check_and_mutate_row}
+use Rattle.bt_requests.specs.ReadModifyWrite.{read_modify_write_row}
 use Rattle.bt_requests.specs.Readers.{create_table, get_table, list_tables, delete_table, update_table, modify_column_families, drop_row_range, read_rows, mutate_row, mutate_rows}
 use Rattle.bt_requests.specs.Refusals.{members_refusal}
 use Rattle.bt_members.specs.declared.kinds.TheConstants as kinds
@@ -22,6 +24,8 @@ message_of method.DropRowRange = Some kinds.DROP_ROW_RANGE
 message_of method.MutateRows = Some kinds.MUTATE_ROWS
 message_of method.ReadRows = Some kinds.READ_ROWS
 message_of method.MutateRow = Some kinds.MUTATE_ROW
+message_of method.CheckAndMutateRow = Some kinds.CHECK_AND_MUTATE_ROW
+message_of method.ReadModifyWriteRow = Some kinds.READ_MODIFY_WRITE_ROW
 message_of _ = None
 
 -- what its request asks for; none where a name in it is not lawful
@@ -36,6 +40,8 @@ asked_of method.DropRowRange d = drop_row_range d
 asked_of method.ReadRows d = read_rows d
 asked_of method.MutateRow d = mutate_row d
 asked_of method.MutateRows d = mutate_rows d
+asked_of method.CheckAndMutateRow d = check_and_mutate_row d
+asked_of method.ReadModifyWriteRow d = read_modify_write_row d
 asked_of _ d = None
 
 -- the refusal, or else what follows

@@ -1,7 +1,7 @@
 //! Filters as requests ask for them (`google.bigtable.v2.RowFilter`).
 ghost use Rattle.std.specs.Prelude.{◌≡◌, IfOk};
 ghost use Rattle.serde_json.specs.View.{view};
-ghost use Rattle.bt_requests.specs.Filters.{flag_in, count_in, qualifiers_in, values_in, times_in, range_in, text_in, filters_in, branch_in, condition_in, kind_in, filter_in, filter_at};
+ghost use Rattle.bt_requests.specs.Filters.{flag_in, count_in, qualifiers_in, values_in, times_in, range_in, text_in, filters_in, branch_in, condition_in, kind_in, filter_in, filter_at, predicate_at};
 
 use crate::bounds::bound_of;
 use bt_base::OutOfMemory;
@@ -25,6 +25,16 @@ pub(crate) fn filter_at(alloc: Global, value: &Value) -> Result<AskedFilter, Out
     match value_at(value, names::FILTER) {
         Some(found) => filter_in(alloc, MOST_LEVELS, found),
         None => Ok(AskedFilter::Unset),
+    }
+}
+
+/// The predicate of a request, or `None` where it has none.
+pub(crate) fn predicate_at(alloc: Global, value: &Value) -> Result<Option<AskedFilter>, OutOfMemory>
+    ensures { IfOk result (λ f. f ≡ predicate_at (view value.now)) }
+{
+    match value_at(value, names::PREDICATE_FILTER) {
+        Some(found) => Ok(Some(filter_in(alloc, MOST_LEVELS, found)?)),
+        None => Ok(None),
     }
 }
 

@@ -2,6 +2,7 @@
 #![tactic(auto)]
 
 mod bounds;
+mod check_and_mutate;
 mod create_table;
 mod drop_row_range;
 mod envelope;
@@ -14,6 +15,7 @@ mod modifications;
 mod mutations;
 mod named_table;
 mod order;
+mod read_modify_write;
 mod read_rows;
 mod refusal;
 mod request;

@@ -57,7 +57,8 @@ fn entry(alloc: Global, value: &Value) -> Result<AskedEntry, OutOfMemory>
     })
 }
 
-fn mutations_in(alloc: Global, items: &[Value]) -> Result<AskedMutationList, OutOfMemory>
+/// The mutations of a list.
+pub(crate) fn mutations_in(alloc: Global, items: &[Value]) -> Result<AskedMutationList, OutOfMemory>
     ensures { IfOk result (λ list. list ≡ mutations_in (items_view items.now)) }
 {
     let mut list = AskedMutationList::new(alloc);

@@ -5,6 +5,7 @@ ghost use Rattle.bt_requests.specs.Readers.{HasOrder, IsInOrder};
 ghost use Rattle.bt_requests.specs.Refusals.{Answers};
 ghost use Rattle.bt_requests.specs.Requests.{request_in, message_of, asked_of};
 
+use crate::check_and_mutate::check_and_mutate_row;
 use crate::create_table::create_table;
 use crate::drop_row_range::drop_row_range;
 use crate::list_tables::list_tables;
@@ -12,6 +13,7 @@ use crate::method::Method;
 use crate::modifications::modify_column_families;
 use crate::mutations::{mutate_row, mutate_rows};
 use crate::named_table::{delete_table, get_table, update_table};
+use crate::read_modify_write::read_modify_write_row;
 use crate::read_rows::read_rows;
 use crate::refusal::{RequestRefusal, members_refusal};
 use crate::request::Request;
@@ -53,6 +55,8 @@ fn message_of(method: Method) -> Option<u8>
         Method::MutateRows => Some(kinds::MUTATE_ROWS),
         Method::ReadRows => Some(kinds::READ_ROWS),
         Method::MutateRow => Some(kinds::MUTATE_ROW),
+        Method::CheckAndMutateRow => Some(kinds::CHECK_AND_MUTATE_ROW),
+        Method::ReadModifyWriteRow => Some(kinds::READ_MODIFY_WRITE_ROW),
         _ => None,
     }
 }
@@ -73,6 +77,8 @@ fn asked_of(alloc: Global, method: Method, value: &Value) -> Result<Option<Reque
         Method::ReadRows => read_rows(alloc, value),
         Method::MutateRow => mutate_row(alloc, value),
         Method::MutateRows => mutate_rows(alloc, value),
+        Method::CheckAndMutateRow => check_and_mutate_row(alloc, value),
+        Method::ReadModifyWriteRow => read_modify_write_row(alloc, value),
         _ => Ok(None),
     }
 }

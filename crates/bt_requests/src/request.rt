@@ -5,6 +5,7 @@ use bt_base::{Blob, BlobList};
 use bt_filter::AskedFilter;
 use bt_mutation::AskedMutationList;
 use bt_range::AskedRangeList;
+use bt_rmw::AskedRuleList;
 use bt_types::{TableName, Text};
 
 /// The rows that DropRowRange is to remove.
@@ -17,8 +18,9 @@ pub enum DropTarget {
 }
 
 /// A request whose names of tables are lawful. The rest is as it was read; what the request leaves
-/// out is zero or empty, and a filter that it leaves out is unset. A retention is in microseconds;
-/// it is `None` where there is no `changeStreamConfig`, and 0 where that has no `retentionPeriod`.
+/// out is zero or empty, a filter that it leaves out is unset, and a predicate that it leaves out is
+/// `None`. A retention is in microseconds; it is `None` where there is no `changeStreamConfig`, and 0
+/// where that has no `retentionPeriod`.
 #[derive(Debug, Drop)]
 pub enum Request {
     /// `google.bigtable.admin.v2.CreateTableRequest`.
@@ -74,5 +76,20 @@ pub enum Request {
     MutateRows {
         name: TableName,
         entries: AskedEntryList,
+    },
+    /// `google.bigtable.v2.CheckAndMutateRowRequest`. `yes` is to be done where the row meets the
+    /// predicate, and `no` where it does not.
+    CheckAndMutateRow {
+        name: TableName,
+        key: Blob,
+        predicate: Option<AskedFilter>,
+        yes: AskedMutationList,
+        no: AskedMutationList,
+    },
+    /// `google.bigtable.v2.ReadModifyWriteRowRequest`.
+    ReadModifyWriteRow {
+        name: TableName,
+        key: Blob,
+        rules: AskedRuleList,
     },
 }

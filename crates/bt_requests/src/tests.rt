@@ -1,6 +1,7 @@
 //! Requests, as they are read.
 use super::*;
 use bt_mutation::AskedMutation;
+use bt_rmw::Action;
 use std::alloc::Global;
 use std::test::Fail;
 
@@ -33,6 +34,25 @@ fn a_row_is_mutated(rt: HostRuntime) -> Result<(), Fail> {
     assert_eq!(rt; qualifier.bytes(), b"q".as_slice());
     assert_eq!(rt; *at, -1);
     assert_eq!(rt; value.bytes(), b"v".as_slice());
+    Ok(())
+}
+
+#[test]
+fn an_amount_and_an_empty_value_are_actions(rt: HostRuntime) -> Result<(), Fail> {
+    let line =
+        r#"{"method":"ReadModifyWriteRow","request":{"tableName":"projects/p/instances/i/tables/t","rules":[{"incrementAmount":"1"},{"append_value":""},{}]}}"#;
+    let Request::ReadModifyWriteRow { rules, .. } = asked(rt.alloc(), line)? else {
+        return Err(Fail::from("ReadModifyWriteRow"));
+    };
+    let [increment, append, neither] = rules.items() else {
+        return Err(Fail::from("three rules"));
+    };
+    assert!(rt; matches!(increment.action, Some(Action::Increment(1))));
+    let Some(Action::Append(value)) = &append.action else {
+        return Err(Fail::from("a value to append"));
+    };
+    assert!(rt; value.bytes().is_empty());
+    assert!(rt; neither.action.is_none());
     Ok(())
 }
 

@@ -1,0 +1,8 @@
+use Rattle.std.proofs.Common.{◌≡◌, ◌++◌, drop}
+use Rattle.serde_json.specs.View.{items_view}
+use Rattle.bt_requests.specs.ReadModifyWrite.{rules_in}
+use Rattle.bt_requests.proofs.read_modify_write.rules_in.Given as goal
+
+-- those so far, and those that are left
+abbrev pub invariant-loop-item : goal.invariant-loop-item
+invariant-loop-item l = l.list ++ rules_in (items_view (drop l.item-index l.items)) ≡ rules_in (items_view l.items)
