@@ -9,6 +9,7 @@ use Rattle.bt_entry.specs.declared.table_info.TableInfo.{TableInfo}
 use Rattle.serde_json.specs.Data.{Data}
 use Rattle.bt_messages.specs.Lines.{line_of, ok_line}
 use Rattle.bt_plans.specs.Plans.{AreRecords, IsPlan, answer_bytes}
+pub use Rattle.bt_plans.specs.Comings.{MayCome}
 use Rattle.bt_plans.specs.Records.{as_record, numbered_from, plan_of}
 use Rattle.bt_plans.specs.Replies.{Reply, event, reply_lines}
 use Rattle.bt_plans.specs.declared.answer.Answer.{Answer}
@@ -37,11 +38,6 @@ numbered_from-append first m (e ∷ es) fs =
     ap (λ xs. numbered first (event m e) ∷ xs) (numbered_from-append (first + 1) m es fs ∙ ap (λ n. numbered_from (first + 1) m es ++ numbered_from n m fs) same)
 
 -- ---- lawfulness
-
--- the table takes this entry of a row at that moment, whatever its rows are
-pub record MayCome (t : TableInfo) (m : ℕ) (e : Entry) : Type 0 where
-  pub of_row : IsOfRow e
-  pub lawful : (p : Present) → table_at t.incarnation p.schema ≡ Some t → p.floor ≤ m → IsLawful p (event m e)
 
 -- an entry of a row leaves the tables as they are
 pub same_schema : (m : ℕ) (p : Present) (e : Entry) → IsOfRow e → (present_after p (event m e)).schema ≡ p.schema

@@ -1,4 +1,6 @@
 pub mod Beginnings
+pub mod Comings
+pub mod FilterRefusals
 pub mod NoPlans
 pub mod Plans
 pub mod Records

@@ -2,6 +2,7 @@
 #![tactic(auto)]
 
 mod answer;
+mod filter_refusal;
 mod no_plan;
 mod plan;
 mod read_plan;
@@ -9,6 +10,7 @@ mod records;
 pub mod row_entry;
 
 pub use answer::Answer;
+pub use filter_refusal::refusal_for_filter;
 pub use no_plan::NoPlan;
 pub use plan::{Plan, RecordList, incarnation_of, next_sequence};
 pub use read_plan::ReadPlan;

@@ -49,7 +49,8 @@ pub fn row_entry(
     })
 }
 
-fn check_mutations(mutations: &[AskedMutation], families: &Families) -> Result<(), Refusal>
+/// Checks mutations of a row against the families of its table. No memory is taken.
+pub fn check_mutations(mutations: &[AskedMutation], families: &Families) -> Result<(), Refusal>
     ensures exact { result_err result ≡ option_map refusal_for (list_refusal families.now most_mutations mutations.now) }
     ensures lawful { OnOk result (AllByRecursion IsResolvable mutations.now) }
     ensures some { OnOk result ((1 ≤ length mutations.now) × (length mutations.now ≤ most_mutations)) }

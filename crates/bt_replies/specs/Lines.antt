@@ -12,9 +12,11 @@ use Rattle.bt_requests.specs.declared.method.Method.{Method}
 use Rattle.bt_requests.specs.declared.refusal.RequestRefusal.{RequestRefusal}
 use Rattle.bt_requests.specs.declared.refusal.RequestRefusal.TheVariants as request
 use Rattle.bt_requests.specs.declared.request.Request.{Request}
-use Rattle.bt_requests.specs.declared.request.Request.TheVariants.{CreateTable, GetTable, ListTables, DeleteTable, UpdateTable, ModifyColumnFamilies, DropRowRange, MutateRow, MutateRows, ReadRows}
+use Rattle.bt_requests.specs.declared.request.Request.TheVariants.{CreateTable, GetTable, ListTables, DeleteTable, UpdateTable, ModifyColumnFamilies, DropRowRange, MutateRow, MutateRows, ReadRows, CheckAndMutateRow, ReadModifyWriteRow}
 use Rattle.bt_schema.specs.Schema.{table_of}
 use Rattle.bt_state.specs.State.{Present}
+use Rattle.bt_read_write_replies.specs.CheckAndMutate.{IsCheckReply}
+use Rattle.bt_read_write_replies.specs.ReadModifyWrite.{modify_row_reply}
 use Rattle.bt_row_replies.specs.Drops.{drop_reply}
 use Rattle.bt_table_replies.specs.Modifications.{modify_reply}
 use Rattle.bt_row_replies.specs.MutateRows.{mutate_rows_reply}
@@ -34,6 +36,18 @@ IsRequestReply p m (DropRowRange name target) r = r ≡ drop_reply p m target (t
 IsRequestReply p m (MutateRow name key ms) r = r ≡ mutate_reply m key ms (table_of name p.schema)
 IsRequestReply p m (MutateRows name entries) r = r ≡ mutate_rows_reply m entries (table_of name p.schema)
 IsRequestReply p m (ReadRows name keys ranges filter limit) r = IsReadReply p keys ranges filter limit (table_of name p.schema) r
+IsRequestReply p m (CheckAndMutateRow name key predicate trues falses) r = IsCheckReply p m (record { key = key; predicate = predicate; yes = trues; no = falses }) (table_of name p.schema) r
+IsRequestReply p m (ReadModifyWriteRow name key rules) r = r ≡ modify_row_reply p m key rules (table_of name p.schema)
+
+-- the request is about rows
+abbrev pub IsOfRows : Request → Type 0
+IsOfRows (CreateTable name families retention) = ⊥
+IsOfRows (GetTable name) = ⊥
+IsOfRows (ListTables parent page_token) = ⊥
+IsOfRows (DeleteTable name) = ⊥
+IsOfRows (UpdateTable name mask retention) = ⊥
+IsOfRows (ModifyColumnFamilies name changes) = ⊥
+IsOfRows _ = Unit {0}
 
 -- the status line of a request that is refused for what it holds
 abbrev pub request_refusal_line : RequestRefusal → List ℕ

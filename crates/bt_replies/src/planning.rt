@@ -4,7 +4,7 @@ ghost use Rattle.serde_json.specs.View.{view};
 ghost use Rattle.bt_entry.specs.Grammar.{last_moment};
 ghost use Rattle.bt_plans.specs.Plans.{IsPlan, IsPlanOf};
 ghost use Rattle.bt_plans.specs.Replies.{refused_by};
-ghost use Rattle.bt_replies.specs.Lines.{IsAskedReply, IsReplyTo, IsRequestReply, envelope_refusal, request_refusal_line};
+ghost use Rattle.bt_replies.specs.Lines.{IsAskedReply, IsOfRows, IsReplyTo, IsRequestReply, envelope_refusal, request_refusal_line};
 ghost use Rattle.bt_requests.specs.Readers.{HasOrder};
 ghost use Rattle.bt_requests.specs.Requests.{request_in};
 ghost use Rattle.bt_state.specs.State.{Present};
@@ -12,6 +12,8 @@ ghost use Rattle.bt_state.specs.State.{Present};
 use bt_base::OutOfMemory;
 use bt_messages::{Refusal, bad_field_line, unsupported_line};
 use bt_plans::{Answer, Plan};
+use bt_read_write_replies::check_and_mutate_row::{Check, check_and_mutate_row};
+use bt_read_write_replies::read_modify_write_row::read_modify_write_row;
 use bt_requests::{LineRefusal, Method, Request, RequestRefusal, read_envelope, read_request};
 use bt_row_replies::drop_row_range::drop_row_range;
 use bt_row_replies::mutate_row::mutate_row;
@@ -94,7 +96,7 @@ fn refusal_plan(alloc: Global, refusal: RequestRefusal) -> Result<Plan, OutOfMem
     }
 }
 
-// One line for each method.
+// One line for each method on tables.
 fn request_plan(
     alloc: Global,
     present: &Present,
@@ -125,6 +127,23 @@ fn request_plan(
         Request::ModifyColumnFamilies { name, changes } => {
             modify_column_families(alloc, present, &name, changes, moment)
         }
+        request => row_plan(alloc, present, request, moment),
+    }
+}
+
+// One line for each method on rows.
+fn row_plan(
+    alloc: Global,
+    present: &Present,
+    request: Request,
+    moment: u64,
+) -> Result<Plan, OutOfMemory>
+    requires of_rows { IsOfRows request }
+    requires not_before { present.now.floor ≤ moment }
+    requires not_past { moment ≤ last_moment }
+    ensures { IfOk result (λ plan. IsPlanOf plan present.now (IsRequestReply present.now moment request)) }
+{
+    match request {
         Request::DropRowRange { name, target } => {
             drop_row_range(alloc, present, &name, target, moment)
         }
@@ -143,5 +162,24 @@ fn request_plan(
             filter,
             rows_limit,
         } => read_rows(alloc, present, &name, keys, ranges, filter, rows_limit),
+        Request::CheckAndMutateRow {
+            name,
+            key,
+            predicate,
+            yes,
+            no,
+        } => {
+            let check = Check {
+                key,
+                predicate,
+                yes,
+                no,
+            };
+            check_and_mutate_row(alloc, present, &name, check, moment)
+        }
+        Request::ReadModifyWriteRow { name, key, rules } => {
+            read_modify_write_row(alloc, present, &name, &key, rules, moment)
+        }
+        _ => unreachable!(),
     }
 }

@@ -1,14 +1,14 @@
 //! ReadRows.
 ghost use Rattle.std.specs.Prelude.{◌≡◌, IfOk};
 ghost use Rattle.bt_plans.specs.Plans.{IsPlanOf};
-ghost use Rattle.bt_row_replies.specs.Rows.{IsReadReply, limit_in, refusal_for_filter};
+ghost use Rattle.bt_row_replies.specs.Rows.{IsReadReply, limit_in};
 ghost use Rattle.bt_schema.specs.Schema.{table_of};
 
 use bt_base::{BlobList, OutOfMemory};
-use bt_filter::{AskedFilter, FilterRefusal, Why};
+use bt_filter::{AskedFilter, FilterRefusal};
 use bt_filter_run::Node;
 use bt_messages::Refusal;
-use bt_plans::{Plan, ReadPlan};
+use bt_plans::{Plan, ReadPlan, refusal_for_filter};
 use bt_range::{AskedRangeList, RowSet};
 use bt_state::Present;
 use bt_types::TableName;
@@ -57,23 +57,4 @@ fn limit_in(rows_limit: i64) -> Option<u64>
         return None;
     }
     Some(rows_limit as u64)
-}
-
-fn refusal_for_filter(why: Why) -> Refusal
-    ensures { result ≡ refusal_for_filter why }
-{
-    match why {
-        Why::TooDeep => Refusal::FilterTooDeep,
-        Why::TooMany => Refusal::TooManyFilters,
-        Why::TooLarge => Refusal::FilterTooLarge,
-        Why::TooManyPatterns => Refusal::TooManyPatterns,
-        Why::SinkUnderCondition => Refusal::SinkUnderCondition,
-        Why::FlagNotTrue => Refusal::FlagNotTrue,
-        Why::BadLabel => Refusal::BadLabel,
-        Why::TwoLabels => Refusal::TwoLabels,
-        Why::NegativeCount => Refusal::NegativeCount,
-        Why::BadTimeRange => Refusal::BadTimeRange,
-        Why::BadPattern => Refusal::BadPattern,
-        Why::LargePattern => Refusal::PatternTooLarge,
-    }
 }

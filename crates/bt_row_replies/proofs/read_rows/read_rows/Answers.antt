@@ -9,12 +9,13 @@ use Rattle.bt_filter.specs.Flaws.{IsRefusedFor, IsValidFilter}
 use Rattle.bt_filter.specs.declared.filter.Filter.{Filter}
 use Rattle.bt_filter.specs.declared.refusal.FilterRefusal.TheVariants.{BadFilter}
 use Rattle.bt_messages.specs.declared.refusal.Refusal.TheVariants.{NegativeRowsLimit, TableNotFound}
+use Rattle.bt_plans.specs.FilterRefusals.{refusal_for_filter}
 use Rattle.bt_plans.specs.Replies.{refused, rows_reply}
 use Rattle.bt_range.specs.RowSets.{is_in_any, is_selected}
 use Rattle.bt_range.specs.declared.asked_range.AskedRange.{AskedRange}
 use Rattle.bt_read.specs.Answers.{answer, found, limit_of, limited}
 use Rattle.bt_row_replies.proofs.Selecting.{selected_rows}
-use Rattle.bt_row_replies.specs.Rows.{limit_in, refusal_for_filter}
+use Rattle.bt_row_replies.specs.Rows.{limit_in}
 use Rattle.bt_schema.specs.Schema.{table_of}
 use Rattle.bt_state.specs.State.{rows_of}
 use Rattle.bt_row_replies.proofs.read_rows.read_rows.Goals as goal

@@ -1,0 +1,2 @@
+pub mod CheckAndMutate
+pub mod ReadModifyWrite
