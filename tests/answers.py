@@ -11,12 +11,13 @@ import sys
 import checks
 import filters
 import reads
+import updates
 
 
 def main(words):
     if words not in (["lines"], ["replies"]):
         sys.exit(__doc__)
-    for pairs in (checks.pairs(), filters.pairs(), reads.pairs()):
+    for pairs in (checks.pairs(), filters.pairs(), reads.pairs(), updates.pairs()):
         for line, replies in pairs:
             print(line if words == ["lines"] else "\n".join(replies))
 
