@@ -39,6 +39,16 @@ def mutate_rows(*counts):
     return "MutateRows", {"tableName": TABLE, "entries": [{"rowKey": "cg==", "mutations": [delete] * count} for count in counts]}
 
 
+def check(yes, no):
+    delete = {"deleteFromFamily": {"familyName": "f"}}
+    return "CheckAndMutateRow", {"tableName": TABLE, "rowKey": "cg==", "trueMutations": [delete] * yes, "falseMutations": [delete] * no}
+
+
+def append(key, value, qualifier=b"q", count=1):
+    rule = {"familyName": "f", "columnQualifier": spelled(qualifier), "appendValue": spelled(value)}
+    return "ReadModifyWriteRow", {"tableName": TABLE, "rowKey": spelled(key), "rules": [rule] * count}
+
+
 def families(count):
     return ["f"] + [f"f{i}" for i in range(1, count)]
 
@@ -65,6 +75,17 @@ def cases():
     yield mutate(count=100001), refused(3, "too many mutations")
     yield mutate_rows(50000, 50000), OK
     yield mutate_rows(50000, 50001), refused(3, "too many mutations")
+    yield check(100000, 100000), OK
+    yield check(100001, 0), refused(3, "too many mutations")
+    yield check(1, 100001), refused(3, "too many mutations")
+    yield append(b"a", b"v" * 4194303), OK
+    yield append(b"a", b"v"), OK
+    yield append(b"a", b"v"), refused(3, "value too large")
+    yield append(b"a", b""), OK
+    yield append(b"a", b"v", qualifier=b"q" * 16384), OK
+    yield append(b"a", b"v", qualifier=b"q" * 16385), refused(3, "qualifier too long")
+    yield append(b"c", b"v", count=100000), OK
+    yield append(b"c", b"v", count=100001), refused(3, "too many rules")
     yield filtered({"interleave": {"filters": [{"blockAllFilter": True}] * 1023}}), OK
     yield filtered({"interleave": {"filters": [{"blockAllFilter": True}] * 1024}}), refused(3, "too many filters")
 
