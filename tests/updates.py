@@ -4,36 +4,16 @@ The replies are worked out by a reading of the public documentation of CheckAndM
 ReadModifyWriteRowRequest that shares no code with the program. The time is 1970-01-01T00:00:05Z.
 """
 import base64
-import json
 import random
 
-INSTANCE = "projects/p/instances/i"
+from checks import INSTANCE, OK, answered, refused, spelled
+from reads import line
+
 TABLE = f"{INSTANCE}/tables/updates"
 NOW = 5000000
-OK = '{"status":{}}'
 ONE = b"\0\0\0\0\0\0\0\1"
 GREATEST = b"\x7f" + b"\xff" * 7
 LEAST = b"\x80" + b"\0" * 7
-
-
-def spelled(data):
-    return base64.b64encode(data).decode()
-
-
-def compact(value):
-    return json.dumps(value, separators=(",", ":"), sort_keys=True)
-
-
-def line(method, request):
-    return json.dumps({"method": method, "request": request}, separators=(",", ":"))
-
-
-def refused(code, text):
-    return [compact({"status": {"code": code, "message": text}})]
-
-
-def answered(response):
-    return [compact({"response": response}), OK]
 
 
 # ---- requests
