@@ -7,6 +7,51 @@ ghost use Rattle.bt_members.specs.Tables.{call_members_of, data_members_of, filt
 use crate::{kinds, names};
 use bt_walk::{Many, Member, Schema, Shape, Support};
 
+macro_rules! member {
+    ($name:ident, $many:expr, $shape:expr, $choice:literal, $support:expr) => {
+        Member {
+            name: names::$name,
+            many: $many,
+            shape: $shape,
+            choice: $choice,
+            support: $support,
+        }
+    };
+}
+
+// A member of one value.
+macro_rules! one {
+    ($name:ident, $shape:expr) => {
+        member!($name, Many::One, $shape, 0, Support::Full)
+    };
+}
+
+macro_rules! list {
+    ($name:ident, $shape:expr) => {
+        member!($name, Many::List, $shape, 0, Support::Full)
+    };
+}
+
+macro_rules! map {
+    ($name:ident, $shape:expr) => {
+        member!($name, Many::Map, $shape, 0, Support::Full)
+    };
+}
+
+// A member of a oneof, by the oneof's number.
+macro_rules! choice {
+    ($choice:literal, $name:ident, $shape:expr) => {
+        member!($name, Many::One, $shape, $choice, Support::Full)
+    };
+}
+
+// A member that is not supported, and the number of its oneof, or 0.
+macro_rules! unsupported {
+    ($choice:literal, $name:ident) => {
+        member!($name, Many::One, Shape::Anything, $choice, Support::UnlessZero)
+    };
+}
+
 /// The messages that requests are made of, by the numbers of `kinds`. A message of another number has
 /// no members, and a list of another number no names.
 pub struct Messages;
@@ -93,51 +138,6 @@ fn filter_members(message: u8) -> &'static [Member]
         kinds::VALUE_RANGE => &VALUE_RANGE,
         _ => &[],
     }
-}
-
-macro_rules! member {
-    ($name:ident, $many:expr, $shape:expr, $choice:literal, $support:expr) => {
-        Member {
-            name: names::$name,
-            many: $many,
-            shape: $shape,
-            choice: $choice,
-            support: $support,
-        }
-    };
-}
-
-// A member of one value.
-macro_rules! one {
-    ($name:ident, $shape:expr) => {
-        member!($name, Many::One, $shape, 0, Support::Full)
-    };
-}
-
-macro_rules! list {
-    ($name:ident, $shape:expr) => {
-        member!($name, Many::List, $shape, 0, Support::Full)
-    };
-}
-
-macro_rules! map {
-    ($name:ident, $shape:expr) => {
-        member!($name, Many::Map, $shape, 0, Support::Full)
-    };
-}
-
-// A member of a oneof, by the oneof's number.
-macro_rules! choice {
-    ($choice:literal, $name:ident, $shape:expr) => {
-        member!($name, Many::One, $shape, $choice, Support::Full)
-    };
-}
-
-// A member that is not supported, and the number of its oneof, or 0.
-macro_rules! unsupported {
-    ($choice:literal, $name:ident) => {
-        member!($name, Many::One, Shape::Anything, $choice, Support::UnlessZero)
-    };
 }
 
 static CREATE_TABLE: [Member; 4] = [
