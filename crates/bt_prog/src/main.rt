@@ -4,7 +4,7 @@
 use bt_base::OutOfMemory;
 use bt_outside::{Disk, Links};
 use bt_real::{FileDisk, LockRefused, StdLinks, StdPrint, SystemClock, TcpLinks};
-use bt_top::{Command, Exit, bigtable, read_words};
+use bt_top::{Command, Exit, WordsRefusal, bigtable, read_words};
 use bt_types::{Text, TextList};
 use std::alloc::Global;
 use std::io::ErrorKind;
@@ -116,7 +116,8 @@ fn main(rt: HostRuntime) -> ExitCode {
             report_address(&rt, links.local_address());
             served(&rt, rt.alloc(), &words, &mut disk, &mut links)
         }
-        Err(_) => {
+        Err(WordsRefusal::OutOfMemory) => Exit::OutOfMemory,
+        Err(WordsRefusal::Usage) => {
             let mut links = StdLinks::new(rt.stdin(), rt.stdout());
             served(&rt, rt.alloc(), &words, &mut disk, &mut links)
         }
