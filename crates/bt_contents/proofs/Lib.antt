@@ -1,12 +1,5 @@
-pub mod AllChanged
-pub mod AllRows
-pub mod Cells
-pub mod Covering
-pub mod Entries
 pub mod Found
-pub mod Laws
-pub mod Plans
+pub mod Lists
 pub mod Rows
-pub mod Sound
 pub mod Steps
 pub mod Within

@@ -18,24 +18,26 @@ use Rattle.bt_types.specs.declared.cell.Cell.{Cell}
 use Rattle.bt_types.specs.declared.mutation.Mutation.{Mutation}
 use Rattle.bt_types.specs.Cells.{IsRow}
 use Rattle.bt_types.specs.Mutations.{applied}
-use Rattle.bt_contents.specs.declared.row.Row.{Row}
-use Rattle.bt_contents.specs.Contents.{AreHeld, AreShort, Contents, IsHeld, IsSound, IsTable, is_used, key_is, keyed_at, keys_with, put_row, row_at, seen, with_row}
-use Rattle.bt_contents.specs.declared.cell_key.CellKey.{CellKey}
-use Rattle.bt_contents.specs.Extents.{AreTimed, IsTimed}
-use Rattle.bt_contents.specs.declared.plan.Ending.{Ending}
-use Rattle.bt_contents.specs.declared.plan.Ending.TheVariants.{CarryOut, TakeBack}
-use Rattle.bt_contents.specs.declared.plan.Outcome.{Outcome}
-use Rattle.bt_contents.specs.declared.plan.Plan.{Plan}
-use Rattle.bt_contents.specs.Keys.{Keyed, cells_of, keyed}
-use Rattle.bt_contents.specs.Plans.{CanSettle, is_new_at, is_wanted_at, outcome_or, placed, settled, value_at}
-use Rattle.bt_contents.proofs.Plans.{first_value}
+use Rattle.bt_row.specs.declared.row.Row.{Row}
+use Rattle.bt_contents.specs.Contents.{AreHeld, Contents, IsTable, is_used, key_is, keyed_at, keys_with, put_row, row_at, seen, with_row}
+use Rattle.bt_row.specs.Sound.{AreShort, IsHeld, IsSound}
+use Rattle.bt_row.specs.declared.cell_key.CellKey.{CellKey}
+use Rattle.bt_row.specs.Extents.{AreTimed, IsTimed}
+use Rattle.bt_row.specs.declared.plan.Ending.{Ending}
+use Rattle.bt_row.specs.declared.plan.Ending.TheVariants.{CarryOut, TakeBack}
+use Rattle.bt_row.specs.declared.plan.Outcome.{Outcome}
+use Rattle.bt_row.specs.declared.plan.Plan.{Plan}
+use Rattle.bt_row.specs.Keys.{Keyed, cells_of, keyed}
+use Rattle.bt_row.specs.Plans.{CanSettle, is_new_at, is_wanted_at, outcome_or, placed, settled, value_at}
+use Rattle.bt_row.proofs.Plans.{first_value}
 use Rattle.bt_contents.specs.Ranges.{is_in, rows_within}
 use Rattle.bt_types.specs.declared.row_range.RowRange.{RowRange}
-use Rattle.bt_contents.proofs.Cells.{row_of_sorted}
-use Rattle.bt_contents.proofs.Covering.{keys_filter}
+use Rattle.bt_row.proofs.Cells.{row_of_sorted}
+use Rattle.bt_row.proofs.Covering.{keys_filter}
 use Rattle.std.proofs.lemmas.List.Kept.{IsStrictlySortedBy-filter}
 use Rattle.std.proofs.lemmas.Map.{keys-set_value}
-use Rattle.bt_contents.proofs.Entries.{at_with, mapped_filter, mapped_insert, mapped_remove, mapped_set, remove_absent, remove_set, set_is_insert, some_with, sorted_put, sorted_removed, with_filled}
+use Rattle.bt_row.proofs.Entries.{mapped_filter, mapped_insert, mapped_remove, mapped_set, remove_absent, remove_set, set_is_insert, sorted_put, sorted_removed}
+use Rattle.bt_contents.proofs.Lists.{at_with, some_with, with_filled}
 
 -- ---- what holds of the rows
 

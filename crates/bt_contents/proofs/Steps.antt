@@ -11,7 +11,8 @@ use Rattle.std.proofs.lemmas.Map.Keys.{sorted_head, sorted_tail}
 use Rattle.bt_types.specs.declared.cell.Cell.{Cell}
 use Rattle.bt_types.specs.Cells.{cell_cmp, IsRow}
 use Rattle.bt_entry.specs.Grammar.{most_of_value}
-use Rattle.bt_contents.specs.Contents.{Contents, AreShort}
+use Rattle.bt_contents.specs.Contents.{Contents}
+use Rattle.bt_row.specs.Sound.{AreShort}
 use Rattle.bt_contents.specs.Ranges.{GoesOn}
 
 none_left : (key : Option (List ℕ)) (c : Cell) (cs : List Cell) → IfNone key (c ∷ cs ≡ []) → IfNone key (cs ≡ [])

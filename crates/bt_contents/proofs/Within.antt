@@ -1,6 +1,6 @@
 -- The rows of a range, found by keys that stand for its bounds.
 use Rattle.std.proofs.Common.{◌≡◌, ℕ, Bool, true, false, List, [], ◌∷◌, Option, Some, None, cond, refl, sym, ap, ◌∙◌}
-use Rattle.std.specs.Prelude.{◌&&◌, not, filter, if◌then◌else◌}
+use Rattle.std.specs.Prelude.{◌&&◌, not, filter}
 use Rattle.std.specs.Ordering.{nat_cmp, is_le, is_lt, is_gt, ordering_reverse}
 use Rattle.std.specs.declared.cmp.Ordering.{Ordering}
 use Rattle.std.specs.declared.cmp.Ordering.TheVariants.{Less, Equal, Greater}
@@ -13,20 +13,11 @@ use Rattle.std.proofs.lemmas.Cmp.{nat_list_cmp_total, alike_right}
 use Rattle.std.proofs.lemmas.Map.Keys.{sorted_head, sorted_tail}
 use Rattle.std.proofs.lemmas.List.Kept.{IsStrictlySortedBy-filter}
 use Rattle.bt_types.specs.declared.row_range.RowRange.{RowRange}
-use Rattle.bt_types.specs.Grammar.{lawful}
-use Rattle.bt_contents.proofs.Covering.{keys_filter}
+use Rattle.bt_row.proofs.Covering.{keys_filter}
 use Rattle.bt_contents.specs.Ranges.{is_before, is_in, is_from, between, rows_within}
 
 abbrev cmp : List ℕ → List ℕ → Ordering
 cmp = slice_cmp nat_cmp
-
--- what is lawful is the bytes themselves
-pub its_bytes : (p : List ℕ → Bool) (b key : List ℕ) → lawful p b ≡ Some key → key ≡ b
-its_bytes p b key is = by (p b) is
-  where
-    by : (t : Bool) → (if t then Some b else None) ≡ Some key → key ≡ b
-    by true e = cc
-    by false e = cc e
 
 not_above : (r : Ordering) → r ≡ ordering_reverse r → is_le r ≡ true
 not_above Less e = cc

@@ -1,6 +1,6 @@
 -- The rows of a table: a finite map from row keys to rows, by its entries in the order of keys.
-use Rattle.std.specs.Prelude.{ℕ, ◌<◌, ◌≤◌, Bool, List, [], ◌∷◌, filter, length, map, bytes_eq, unwrap_or, All}
-use Rattle.std.specs.List.{AllByRecursion, list_any}
+use Rattle.std.specs.Prelude.{ℕ, ◌<◌, Bool, List, [], ◌∷◌, filter, length, map, bytes_eq, unwrap_or, All}
+use Rattle.std.specs.List.{list_any}
 use Rattle.std.specs.List.Sorted.{IsStrictlySortedBy}
 use Rattle.std.specs.Ordering.{nat_cmp}
 use Rattle.std.specs.declared.cmp.Ordering.{Ordering}
@@ -9,13 +9,11 @@ use Rattle.std.specs.Map.{keys_of, lookup, remove_entry, values_of}
 use Rattle.std.specs.BTreeMap.{insert_entry, is_at}
 use Rattle.bt_types.specs.declared.cell.Cell.{Cell}
 use Rattle.bt_types.specs.declared.mutation.Mutation.{Mutation}
-use Rattle.bt_types.specs.declared.mutation.Mutation.TheVariants.{SetCell, DeleteColumn, DeleteFamily, DeleteRow}
 use Rattle.bt_types.specs.Cells.{IsRow}
 use Rattle.bt_types.specs.Mutations.{applied}
-use Rattle.bt_entry.specs.Grammar.{most_of_value}
-use Rattle.bt_contents.specs.declared.row.Row.{Row}
-use Rattle.bt_contents.specs.Extents.{AreTimed}
-use Rattle.bt_contents.specs.Keys.{AreSorted, Keyed, cells_of, keyed}
+use Rattle.bt_row.specs.declared.row.Row.{Row}
+use Rattle.bt_row.specs.Keys.{Keyed, cells_of, keyed}
+use Rattle.bt_row.specs.Sound.{AreShort, IsHeld}
 
 abbrev pub Contents : Type 0
 Contents = List (List ℕ × List Cell)
@@ -28,11 +26,7 @@ HaveCells rows = All (λ cs. 0 < length cs) (values_of rows)
 abbrev pub HaveRows : Contents → Type 0
 HaveRows rows = All IsRow (values_of rows)
 
--- no cell's value is too long
-abbrev pub AreShort : List Cell → Type 0
-AreShort cs = All (λ c. length c.value ≤ most_of_value) cs
-
--- nor is one in any row
+-- no cell's value in any row is too long
 abbrev pub HaveShortValues : Contents → Type 0
 HaveShortValues rows = All AreShort (values_of rows)
 
@@ -42,16 +36,6 @@ pub record IsTable (rows : Contents) : Type 0 where
   pub filled : HaveCells rows
   pub ordered : HaveRows rows
   pub short : HaveShortValues rows
-
--- the mutation sets no value that is too long
-abbrev pub IsShort : Mutation → Type 0
-IsShort (SetCell family qualifier at value) = length value ≤ most_of_value
-IsShort (DeleteColumn family qualifier start end) = Unit {0}
-IsShort (DeleteFamily family) = Unit {0}
-IsShort DeleteRow = Unit {0}
-
-abbrev pub HaveShort : List Mutation → Type 0
-HaveShort mutations = AllByRecursion IsShort mutations
 
 -- a key is this one, by its bytes
 abbrev pub key_is : List ℕ → List ℕ → Bool
@@ -97,17 +81,7 @@ keys_with family rows = keys_of (filter (λ r. list_any (λ c. bytes_eq c.family
 
 -- ---- how the rows are held
 
--- the values of a row by the keys of its cells: in order, at timestamps that cells have, and short
-pub record IsSound (es : Keyed) : Type 0 where
-  pub sorted : AreSorted es
-  pub timed : AreTimed (keys_of es)
-  pub short : AreShort (cells_of es)
-
--- such values, of which there is one
-abbrev pub IsHeld : Row → Type 0
-IsHeld r = IsSound r.cells.entries × (0 < length r.cells.entries)
-
--- such rows, in the order of their keys
+-- rows that are held, in the order of their keys
 pub record AreHeld (rows : List (List ℕ × Row)) : Type 0 where
   pub sorted : IsStrictlySortedBy (slice_cmp nat_cmp) (keys_of rows)
   pub each : All IsHeld (values_of rows)

@@ -9,7 +9,8 @@ use Rattle.std.specs.Map.{keys_of}
 use Rattle.bt_types.specs.declared.cell.Cell.{Cell}
 use Rattle.bt_types.specs.declared.row_range.RowRange.{RowRange}
 use Rattle.bt_types.specs.Cells.{cell_cmp, IsRow}
-use Rattle.bt_contents.specs.Contents.{Contents, AreShort, HaveRows, HaveShortValues, key_is}
+use Rattle.bt_contents.specs.Contents.{Contents, HaveRows, HaveShortValues, key_is}
+use Rattle.bt_row.specs.Sound.{AreShort}
 
 -- the key is before the end, where there is one
 abbrev pub is_before : Option (List ℕ) → List ℕ → Bool

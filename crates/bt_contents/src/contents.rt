@@ -3,18 +3,17 @@ ghost use Rattle.std.specs.Prelude.{◌≡◌, ◌↔◌, [], IfOk, IfSome, IsTr
 ghost use Rattle.std.specs.List.{list_any};
 ghost use Rattle.std.specs.Map.{keys_of, values_of};
 ghost use Rattle.bt_types.specs.declared.mutation.Mutation.TheVariants as mutations;
-ghost use Rattle.bt_contents.specs.Contents.{AreHeld, HaveShort, IsTable, is_used, keyed_at, keys_with, put_row, row_at, seen, with_row};
-ghost use Rattle.bt_contents.specs.Extents.{Covers, is_covered};
-ghost use Rattle.bt_contents.specs.declared.cell_key.CellKey.{CellKey};
-ghost use Rattle.bt_contents.specs.Plans.{AreLawful, CanSettle, IsPlan, placed, planned, settled, value_at, values_after};
+ghost use Rattle.bt_contents.specs.Contents.{AreHeld, IsTable, is_used, keyed_at, keys_with, put_row, row_at, seen, with_row};
+ghost use Rattle.bt_row.specs.Sound.{HaveShort};
+ghost use Rattle.bt_row.specs.Extents.{Covers, is_covered};
+ghost use Rattle.bt_row.specs.declared.cell_key.CellKey.{CellKey};
+ghost use Rattle.bt_row.specs.Plans.{AreLawful, CanSettle, IsPlan, placed, planned, settled, value_at, values_after};
 ghost use Rattle.bt_contents.specs.Ranges.{rows_within, unread};
 
 use crate::contents_rows::ContentsRows;
-use crate::extent::Extent;
-use crate::plan::{Ending, Plan};
 use crate::ranges::rows_within;
-use crate::row::Row;
 use bt_base::{OutOfMemory, Plain};
+use bt_row::{Ending, Extent, Plan, Row};
 use bt_types::{FamilyName, KeyList, MutationList, RowKey, RowRange};
 use std::alloc::Global;
 use std::collections::BTreeMap;
@@ -117,7 +116,7 @@ impl Contents {
 
 impl Contents {
     /// Plans further mutations of the row at a key.
-    pub(crate) fn plan(
+    pub fn plan(
         &self,
         alloc: Global,
         plan: &mut Plan,
@@ -136,7 +135,7 @@ impl Contents {
     }
 
     /// Makes the cells that a plan of the row at a key wants, without bytes yet, all or none.
-    pub(crate) fn make_places(
+    pub fn make_places(
         &mut self,
         alloc: Global,
         key: &RowKey,
@@ -153,7 +152,7 @@ impl Contents {
     }
 
     /// Ends a plan of the row at a key, which takes no memory.
-    pub(crate) fn settle(&mut self, key: &RowKey, plan: Plan, ending: Ending)
+    pub fn settle(&mut self, key: &RowKey, plan: Plan, ending: Ending)
         requires lawful { AreLawful plan.outcomes.entries }
         requires can { CanSettle ending plan (keyed_at key.now self.old) }
         ensures row { self.new ≡ with_row key.now (row_at key.now self.new) self.old }

@@ -1,13 +1,11 @@
 //! The rows of a table in a range of keys, one after another.
-ghost use Rattle.std.specs.Prelude.{◌≡◌, [], IfOk, refl, unwrap_or};
+ghost use Rattle.std.specs.Prelude.{◌≡◌, [], refl, unwrap_or};
 ghost use Rattle.std.specs.Map.Iter.{TakesFirst};
 ghost use Rattle.bt_contents.specs.Contents.{AreHeld, seen};
-ghost use Rattle.bt_contents.specs.Keys.{cell_at};
 ghost use Rattle.bt_contents.specs.Ranges.{answers_of, unread};
 
-use crate::cell_key::CellKey;
-use crate::row::Row;
-use bt_base::{Blob, OutOfMemory, Plain};
+use bt_base::{Blob, Plain};
+use bt_row::{CellKey, Row, copy_of};
 use bt_types::{Cell, NoReads, RowKey, Rows, SourceFault};
 use std::alloc::Global;
 use std::collections::btree_map::{Iter, Range};
@@ -29,7 +27,7 @@ pub struct ContentsRows<'a> {
 impl<'a> Model for ContentsRows<'a> {
     ghost use Rattle.std.specs.Prelude.{[], option_map, unwrap_or};
     ghost use Rattle.bt_contents.specs.Contents.{seen};
-    ghost use Rattle.bt_contents.specs.Keys.{cell_at, cells_of};
+    ghost use Rattle.bt_row.specs.Keys.{cell_at, cells_of};
     ghost use Rattle.bt_contents.specs.Ranges.{Unread, GoesOn};
 
     ghost Value = { Unread };
@@ -117,13 +115,4 @@ fn next_value<'a>(cells: &mut Option<Iter<'a, CellKey, Blob>>) -> Option<(&'a Ce
         Some(cells) => cells.next(),
         None => None,
     }
-}
-
-/// A copy of the cell that this value at this key is.
-pub(crate) fn copy_of(alloc: Global, key: &CellKey, value: &Blob) -> Result<Cell, OutOfMemory>
-    ensures { IfOk result (λ cell. cell ≡ cell_at key.now value.now) }
-{
-    let key = key.copy(alloc)?;
-    let value = value.copy(alloc)?;
-    Ok(Cell::plain(key.family, key.qualifier, key.at, value))
 }

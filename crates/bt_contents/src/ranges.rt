@@ -7,7 +7,7 @@ ghost use Rattle.std.specs.Ordering.{nat_cmp, is_le};
 ghost use Rattle.std.specs.Cmp.Lexicographic.{slice_cmp};
 ghost use Rattle.bt_contents.specs.Ranges.{between, is_from, rows_within};
 
-use crate::row::Row;
+use bt_row::Row;
 use bt_types::{RowKey, RowRange};
 use std::alloc::Global;
 use std::collections::BTreeMap;

@@ -1,8 +1,7 @@
 ghost use Rattle.std.specs.Prelude.{IfOk};
-ghost use Rattle.bt_contents.specs.AllContents.{AreShortChanges};
-ghost use Rattle.bt_contents.specs.Contents.{HaveShort};
+ghost use Rattle.bt_row.specs.Sound.{HaveShort};
 
-use crate::{AllContents, Contents, RowChange, RowChangeList};
+use crate::Contents;
 use bt_base::Blob;
 use bt_types::{
     Cell, FamilyName, KeyList, Micros, Mutation, MutationList, NoReads, Qualifier, RowKey,
@@ -281,64 +280,5 @@ fn a_row_goes_with_its_last_cell(rt: HostRuntime) -> Result<(), Fail> {
     let mutations = delete_column(alloc, ("f", b'q'), 0, 0)?;
     change(alloc, &mut contents, b"r", mutations)?;
     assert!(rt; contents.is_empty());
-    Ok(())
-}
-
-fn row_change(
-    alloc: Global,
-    incarnation: u64,
-    key: &[u8],
-    mutations: MutationList,
-) -> Result<RowChange, Fail>
-    requires { HaveShort mutations }
-    ensures { IfOk result (λ change. HaveShort change.mutations) }
-{
-    let key = RowKey::new(alloc, key)?.ok_or("key")?;
-    Ok(RowChange {
-        incarnation,
-        key,
-        mutations,
-    })
-}
-
-// Three rows of two tables, of which one is set, deleted and set anew.
-fn three_rows(alloc: Global) -> Result<RowChangeList, Fail>
-    ensures { IfOk result (λ changes. AreShortChanges changes) }
-{
-    let column = ("f", b'q');
-    let mut changes = RowChangeList::new(alloc);
-    changes.push(row_change(alloc, 1, b"a", set(alloc, column, 1000, b'1')?)?)?;
-    changes.push(row_change(alloc, 2, b"a", set(alloc, column, 1000, b'2')?)?)?;
-    changes.push(row_change(alloc, 1, b"a", delete_row(alloc)?)?)?;
-    changes.push(row_change(alloc, 1, b"b", set(alloc, column, 1000, b'3')?)?)?;
-    changes.push(row_change(alloc, 1, b"a", set(alloc, column, 2000, b'4')?)?)?;
-    Ok(changes)
-}
-
-// Deletes the row of the second table, and one that is not there.
-fn two_rows_gone(alloc: Global) -> Result<RowChangeList, Fail>
-    ensures { IfOk result (λ changes. AreShortChanges changes) }
-{
-    let mut changes = RowChangeList::new(alloc);
-    changes.push(row_change(alloc, 2, b"a", delete_row(alloc)?)?)?;
-    changes.push(row_change(alloc, 3, b"a", delete_row(alloc)?)?)?;
-    Ok(changes)
-}
-
-#[test]
-fn rows_of_several_tables_change_together(rt: HostRuntime) -> Result<(), Fail> {
-    let alloc = rt.alloc();
-    let mut all = AllContents::new(alloc);
-    all.change_all(alloc, three_rows(alloc)?)?;
-    let range = range(alloc, b"", None)?;
-    let rows = all.rows_of(1).ok_or("rows")?;
-    assert!(rt; keys_are(&rows.keys_in(alloc, &range)?, b"ab"));
-    assert!(rt; first_row_is(alloc, rows, b"4")?);
-    assert!(rt; first_row_is(alloc, all.rows_of(2).ok_or("rows")?, b"2")?);
-    all.change_all(alloc, two_rows_gone(alloc)?)?;
-    assert!(rt; all.rows_of(2).is_none());
-    assert!(rt; all.rows_of(3).is_none());
-    all.forget(1);
-    assert!(rt; all.rows_of(1).is_none());
     Ok(())
 }

@@ -14,7 +14,7 @@ use Rattle.bt_types.specs.declared.row_range.RowRange.{RowRange}
 use Rattle.bt_range.specs.RowSets.{is_in_any}
 use Rattle.bt_contents.specs.Contents.{Contents}
 use Rattle.bt_contents.specs.Ranges.{Unread, answers_of}
-use Rattle.bt_contents.proofs.Covering.{keys_filter}
+use Rattle.bt_row.proofs.Covering.{keys_filter}
 use Rattle.bt_scan.specs.Selection.{AreBehind, AreSorted, GoOn, Moves, selected}
 
 -- no rows are in order

@@ -14,9 +14,9 @@ use Rattle.bt_entry.specs.declared.entry.Entry.TheVariants.{Row, Create, Delete,
 use Rattle.bt_entry.specs.declared.numbered.Numbered.{Numbered}
 use Rattle.bt_entry.specs.declared.table_info.TableInfo.{TableInfo}
 use Rattle.bt_schema.specs.Schema.{Schema, change_refusal, changed_at, new_table, schema_after, table_at, with_families, with_retention, without}
-use Rattle.bt_contents.specs.declared.row_change.RowChange.{RowChange}
+use Rattle.bt_all_contents.specs.declared.row_change.RowChange.{RowChange}
 use Rattle.bt_contents.specs.Contents.{Contents, put_row}
-use Rattle.bt_contents.specs.AllContents.{AllContents, all_changed, one_changed, rows_of, with_rows, without_rows}
+use Rattle.bt_all_contents.specs.AllContents.{AllContents, all_changed, one_changed, rows_of, with_rows, without_rows}
 use Rattle.bt_state.specs.State.{AreLawful, AreOrdered, Present, event_of, events_of, present_after}
 use Rattle.bt_state.specs.Batches.{row_change_of, row_changes_of}
 use Rattle.bt_state.proofs.Entries.{not_refused}

@@ -12,10 +12,10 @@ use Rattle.bt_entry.specs.declared.numbered.Numbered.{Numbered}
 use Rattle.bt_entry.specs.Grammar.{AreNumbered, IsSpellableEntry, IsSpellableMutation}
 use Rattle.bt_schema.specs.Schema.{Schema, change_refusal, schema_after, table_at}
 use Rattle.bt_schema.proofs.Altered.{gone}
-use Rattle.bt_contents.specs.declared.row_change.RowChange.{RowChange}
+use Rattle.bt_all_contents.specs.declared.row_change.RowChange.{RowChange}
 use Rattle.bt_contents.specs.Contents.{put_row}
-use Rattle.bt_contents.specs.Contents.{HaveShort, IsShort}
-use Rattle.bt_contents.specs.AllContents.{AllContents, all_changed, rows_of}
+use Rattle.bt_row.specs.Sound.{HaveShort, IsShort}
+use Rattle.bt_all_contents.specs.AllContents.{AllContents, all_changed, rows_of}
 use Rattle.bt_state.specs.State.{AreLawful, AreMade, AreOrdered, IsLawful, Present, contents_after, event_of, events_of, present_after, presents_after}
 use Rattle.bt_state.specs.Batches.{AreChanges, deleted_by, deleted_of, floor_after, keeps_schema, row_change_of, row_changes_of, schema_by, schema_by_all, without_all}
 use Rattle.bt_state.proofs.Entries.{both_true, is_new, not_refused}

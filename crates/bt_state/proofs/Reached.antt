@@ -17,7 +17,7 @@ use Rattle.bt_entry.specs.declared.table_info.TableInfo.{TableInfo}
 use Rattle.bt_entry.specs.Grammar.{AreSpellableFamilies, IsSpellableEntry, is_retention}
 use Rattle.bt_schema.specs.Schema.{Schema, changed_at, name_is, new_table, schema_after, table_of, with_families, with_retention, without}
 use Rattle.bt_contents.specs.Contents.{Contents, put_row, row_at, with_row}
-use Rattle.bt_contents.specs.AllContents.{AllContents, rows_of, with_rows}
+use Rattle.bt_all_contents.specs.AllContents.{AllContents, rows_of, with_rows}
 use Rattle.bt_state.specs.State.{AreLawful, AreLawfulTables, AreRowKeys, Event, IsLawful, IsReached, Present, contents_after, event_of, events_of, greatest_sequence, present_after, presents_after}
 use Rattle.bt_state.proofs.InTurn.{ordered_after}
 use Rattle.bt_state.proofs.Made.{made_after}

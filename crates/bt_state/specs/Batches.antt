@@ -6,8 +6,8 @@ use Rattle.bt_entry.specs.declared.entry.Entry.TheVariants.{Row, Create, Delete,
 use Rattle.bt_entry.specs.declared.numbered.Numbered.{Numbered}
 use Rattle.bt_entry.specs.Grammar.{AllFrom}
 use Rattle.bt_schema.specs.Schema.{Schema, IsNew, change_refusal, schema_after}
-use Rattle.bt_contents.specs.declared.row_change.RowChange.{RowChange}
-use Rattle.bt_contents.specs.AllContents.{AllContents, without_rows}
+use Rattle.bt_all_contents.specs.declared.row_change.RowChange.{RowChange}
+use Rattle.bt_all_contents.specs.AllContents.{AllContents, without_rows}
 
 -- the tables after an entry that has its number
 abbrev pub schema_by : Schema → Numbered → Schema

@@ -14,8 +14,8 @@ use Rattle.bt_entry.specs.declared.table_info.TableInfo.{TableInfo}
 use Rattle.bt_entry.specs.Grammar.{AreSpellableFamilies, IsSpellableEntry, is_retention, last_moment}
 use Rattle.bt_schema.specs.Schema.{Schema, change_refusal, is_family_of, schema_after, table_at}
 use Rattle.bt_contents.specs.Contents.{Contents, is_used, put_row}
-use Rattle.bt_contents.specs.AllContents.{with_rows, without_rows}
-pub use Rattle.bt_contents.specs.AllContents.{AllContents, rows_of}
+use Rattle.bt_all_contents.specs.AllContents.{with_rows, without_rows}
+pub use Rattle.bt_all_contents.specs.AllContents.{AllContents, rows_of}
 
 -- The tables as they are; the sequence of the last entry, or 0; and the greatest moment of an entry, or 0.
 pub record Present : Type 0 where

@@ -3,8 +3,8 @@ ghost use Rattle.std.specs.Prelude.{◌≡◌, IfOk, OnOk, unwrap_or};
 ghost use Rattle.std.specs.List.{list_all};
 ghost use Rattle.bt_state.specs.Batches.{AreChanges, deleted_by, deleted_of, floor_after, keeps_schema, row_change_of, row_changes_of, schema_by_all, without_all};
 
+use bt_all_contents::{AllContents, RowChange, RowChangeList};
 use bt_base::{OutOfMemory, Plain};
-use bt_contents::{AllContents, RowChange, RowChangeList};
 use bt_entry::{Batch, Entry, Numbered};
 use bt_schema::Schema;
 use std::alloc::Global;

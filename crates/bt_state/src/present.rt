@@ -8,8 +8,9 @@ use crate::batches::{
     changed_schema, deleted_tables, floor_after, forget_all, put_schema, row_changes,
 };
 use crate::rows::change_rows;
+use bt_all_contents::AllContents;
 use bt_base::OutOfMemory;
-use bt_contents::{AllContents, Contents};
+use bt_contents::Contents;
 use bt_entry::{Batch, Entry, Numbered, TableInfo};
 use bt_schema::Schema;
 use bt_types::TableName;

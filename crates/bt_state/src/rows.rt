@@ -3,8 +3,8 @@ ghost use Rattle.std.specs.Prelude.{◌≡◌, OnOk, OnErr};
 ghost use Rattle.bt_entry.specs.Grammar.{IsSpellableEntry};
 ghost use Rattle.bt_state.specs.State.{IsOfRow, contents_after};
 
+use bt_all_contents::{AllContents, RowChange};
 use bt_base::OutOfMemory;
-use bt_contents::{AllContents, RowChange};
 use bt_entry::Entry;
 use std::alloc::Global;
 

@@ -15,9 +15,9 @@ use Rattle.bt_types.specs.declared.cell.Cell.{Cell}
 use Rattle.bt_types.specs.declared.mutation.Mutation.{Mutation}
 use Rattle.bt_types.specs.declared.mutation.Mutation.TheVariants.{DeleteFamily}
 use Rattle.bt_types.specs.Mutations.{applied, mutated}
-use Rattle.bt_contents.proofs.Entries.{at_with, sorted_with}
+use Rattle.bt_contents.proofs.Lists.{at_with, sorted_with}
 use Rattle.bt_contents.specs.Contents.{Contents, is_used, put_row, row_at, with_row}
-use Rattle.bt_contents.specs.AllContents.{rows_of}
+use Rattle.bt_all_contents.specs.AllContents.{rows_of}
 use Rattle.bt_table_replies.proofs.Altering.{same_name}
 use Rattle.bt_table_replies.proofs.Losing.{IsBelow, all_losses, past}
 use Rattle.bt_table_replies.specs.Losses.{Losses, deletions_of, has_cell, loss, loss_entry, losses}

@@ -3,7 +3,7 @@ use Rattle.std.specs.Map.{lookup, set_value}
 use Rattle.std.specs.Option.{option_copied_mut}
 use Rattle.bt_types.specs.Mutations.{applied}
 use Rattle.bt_contents.specs.Contents.{key_is, seen}
-use Rattle.bt_contents.specs.Keys.{cells_of}
+use Rattle.bt_row.specs.Keys.{cells_of}
 use Rattle.bt_contents.proofs.Rows.{filled_of, found_held, gone_row, held_gone, held_new, held_over, new_row, no_row, over_row, put_absent, put_found, same_row}
 use Rattle.bt_contents.proofs.contents.change_row.Goals as goal
 

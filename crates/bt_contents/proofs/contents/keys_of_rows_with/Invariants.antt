@@ -2,7 +2,7 @@ use Rattle.std.proofs.Common.{◌≡◌, ◌++◌}
 use Rattle.std.specs.Prelude.{filter}
 use Rattle.std.specs.List.{list_any}
 use Rattle.std.specs.Map.{keys_of}
-use Rattle.bt_contents.specs.Extents.{is_covered}
+use Rattle.bt_row.specs.Extents.{is_covered}
 use Rattle.bt_contents.proofs.contents.keys_of_rows_with.Given as goal
 
 -- the keys of the rows that are left are still to come

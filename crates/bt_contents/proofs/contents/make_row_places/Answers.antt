@@ -1,10 +1,10 @@
 use Rattle.std.proofs.Common.{◌≡◌, ◌∙◌, Some, None, false, ap, sym, subst, rules}
 use Rattle.std.specs.Map.{lookup, set_value}
 use Rattle.std.specs.Option.{option_copied_mut}
-use Rattle.bt_contents.specs.declared.cell_key.CellKey.{CellKey}
+use Rattle.bt_row.specs.declared.cell_key.CellKey.{CellKey}
 use Rattle.bt_contents.specs.Contents.{key_is, seen, with_row}
-use Rattle.bt_contents.specs.Keys.{Keyed, cells_of}
-use Rattle.bt_contents.specs.Plans.{IsPlan, placed, value_at}
+use Rattle.bt_row.specs.Keys.{Keyed, cells_of}
+use Rattle.bt_row.specs.Plans.{IsPlan, placed, value_at}
 use Rattle.bt_contents.proofs.Rows.{absent_itself, filled_of, found_held, held_new, held_over, keyed_absent, keyed_after, keyed_found, new_row, over_row, places_filled, row_is, same_row, some_after}
 use Rattle.bt_contents.proofs.contents.make_row_places.Goals as goal
 

@@ -1,10 +1,10 @@
 use Rattle.std.proofs.Common.{◌≡◌, ◌∙◌, [], Some, None, false, ap, sym, subst, rules}
 use Rattle.std.specs.Map.{lookup, set_value}
 use Rattle.std.specs.Option.{option_copied_mut}
-use Rattle.bt_contents.specs.declared.cell_key.CellKey.{CellKey}
+use Rattle.bt_row.specs.declared.cell_key.CellKey.{CellKey}
 use Rattle.bt_contents.specs.Contents.{key_is, seen, with_row}
-use Rattle.bt_contents.specs.Keys.{Keyed, cells_of}
-use Rattle.bt_contents.specs.Plans.{CanSettle, settled, value_at}
+use Rattle.bt_row.specs.Keys.{Keyed, cells_of}
+use Rattle.bt_row.specs.Plans.{CanSettle, settled, value_at}
 use Rattle.bt_contents.proofs.Rows.{absent_itself, filled_of, gone_row, held_gone, held_over, keyed_absent, keyed_after, keyed_found, over_row, row_is, settled_none}
 use Rattle.bt_contents.proofs.contents.settle_row.Goals as goal
 

@@ -3,7 +3,7 @@ use Rattle.std.specs.List.Sorted.{IsStrictlySortedBy}
 use Rattle.std.specs.Map.{keys_of}
 use Rattle.std.specs.Ordering.{nat_cmp}
 use Rattle.std.specs.Cmp.Lexicographic.{slice_cmp}
-use Rattle.bt_contents.specs.declared.row.Row.{Row}
+use Rattle.bt_row.specs.declared.row.Row.{Row}
 use Rattle.bt_contents.proofs.Within.{none_pass, less_of, not_gt, backwards, between_sorted}
 use Rattle.bt_contents.proofs.ranges.between.Goals as goal
 

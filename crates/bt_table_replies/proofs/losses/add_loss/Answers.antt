@@ -7,7 +7,7 @@ use Rattle.std.specs.Option.{option_copied_mut}
 use Rattle.std.specs.Ordering.{nat_cmp}
 use Rattle.std.proofs.lemmas.Cmp.{nat_list_cmp_total}
 use Rattle.std.proofs.lemmas.Result.{on_ok_weaker}
-use Rattle.bt_contents.proofs.Entries.{set_is_insert}
+use Rattle.bt_row.proofs.Entries.{set_is_insert}
 use Rattle.bt_types.specs.declared.mutation.Mutation.TheVariants.{DeleteFamily}
 use Rattle.bt_table_replies.proofs.losses.add_loss.Goals as goal
 

@@ -1,7 +1,7 @@
 use Rattle.std.proofs.Common.{◌∙◌, ap, refl}
 use Rattle.std.specs.Prelude.{bytes_eq}
 use Rattle.bt_contents.specs.Contents.{is_used}
-use Rattle.bt_contents.specs.Extents.{is_covered}
+use Rattle.bt_row.specs.Extents.{is_covered}
 use Rattle.bt_contents.proofs.Rows.{rows_any}
 use Rattle.bt_contents.proofs.contents.Contents.has_family.Goals as goal
 

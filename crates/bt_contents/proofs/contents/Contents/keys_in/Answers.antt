@@ -1,7 +1,7 @@
 use Rattle.std.proofs.Common.{◌≡◌, ◌∙◌, ℕ, List, ap}
 use Rattle.std.specs.Map.{keys_of}
 use Rattle.std.proofs.lemmas.Result.{IfOk-weaker}
-use Rattle.bt_contents.specs.declared.row.Row.{Row}
+use Rattle.bt_row.specs.declared.row.Row.{Row}
 use Rattle.bt_contents.specs.Contents.{Contents}
 use Rattle.bt_contents.specs.Ranges.{rows_within}
 use Rattle.bt_contents.proofs.Rows.{keys_within}

@@ -4,7 +4,7 @@ use Rattle.std.specs.List.{list_any}
 use Rattle.std.specs.Map.{keys_of}
 use Rattle.std.proofs.lemmas.Result.{IfOk-weaker}
 use Rattle.bt_contents.specs.Contents.{keys_with}
-use Rattle.bt_contents.specs.Extents.{is_covered}
+use Rattle.bt_row.specs.Extents.{is_covered}
 use Rattle.bt_contents.proofs.Rows.{keys_any}
 use Rattle.bt_contents.proofs.contents.Contents.keys_with.Goals as goal
 

@@ -2,7 +2,7 @@ use Rattle.std.proofs.Common.{◌≡◌, ◌∙◌, [], Some, None, ap, sym, ref
 use Rattle.std.specs.Map.{lookup}
 use Rattle.std.specs.Option.{option_copied}
 use Rattle.bt_contents.specs.Contents.{key_is, row_at}
-use Rattle.bt_contents.specs.Keys.{cells_of}
+use Rattle.bt_row.specs.Keys.{cells_of}
 use Rattle.bt_contents.proofs.Rows.{found_held, row_absent, row_found}
 use Rattle.bt_contents.proofs.contents.Contents.latest.Goals as goal
 

@@ -2,7 +2,7 @@ use Rattle.std.proofs.Common.{◌≡◌, ◌∙◌, Some, None, ap, sym, subst}
 use Rattle.std.specs.Map.{lookup}
 use Rattle.std.specs.Option.{option_copied}
 use Rattle.bt_contents.specs.Contents.{key_is, keyed_at}
-use Rattle.bt_contents.specs.Plans.{IsPlan}
+use Rattle.bt_row.specs.Plans.{IsPlan}
 use Rattle.bt_contents.proofs.Rows.{keyed_absent, keyed_found}
 use Rattle.bt_contents.proofs.contents.Contents.plan.Goals as goal
 

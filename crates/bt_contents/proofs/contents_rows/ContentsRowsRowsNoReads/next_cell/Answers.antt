@@ -2,7 +2,7 @@ use Rattle.std.proofs.Common.{◌≡◌, Option, Less, ap, refl, subst}
 use Rattle.std.specs.Prelude.{IfSome}
 use Rattle.bt_types.specs.declared.cell.Cell.{Cell}
 use Rattle.bt_types.specs.Cells.{cell_cmp}
-use Rattle.bt_contents.specs.Keys.{cell_at, cells_of}
+use Rattle.bt_row.specs.Keys.{cell_at, cells_of}
 use Rattle.bt_contents.proofs.Steps.{cell_follows, cell_given, cell_passed}
 use Rattle.bt_contents.proofs.contents_rows.ContentsRowsRowsNoReads.next_cell.Goals as goal
 

@@ -1,6 +1,6 @@
 use Rattle.std.proofs.Common.{ap}
 use Rattle.bt_contents.specs.Contents.{seen}
-use Rattle.bt_contents.specs.Keys.{cells_of}
+use Rattle.bt_row.specs.Keys.{cells_of}
 use Rattle.bt_contents.proofs.Steps.{row_passed, row_begun}
 use Rattle.bt_contents.proofs.contents_rows.ContentsRowsRowsNoReads.next_row.Goals as goal
 

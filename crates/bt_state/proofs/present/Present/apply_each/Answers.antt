@@ -1,6 +1,6 @@
 use Rattle.std.proofs.Common.{◌≡◌, ◌+◌, ◌≤◌, rules, List, length, sym, ap, subst, ◌∙◌}
 use Rattle.bt_entry.specs.declared.numbered.Numbered.{Numbered}
-use Rattle.bt_contents.specs.AllContents.{all_changed}
+use Rattle.bt_all_contents.specs.AllContents.{all_changed}
 use Rattle.bt_state.specs.State.{AreLawful, IsReached, Present, events_of, greatest_sequence, presents_after}
 use Rattle.bt_state.specs.Batches.{AreChanges, deleted_of, floor_after, schema_by_all, without_all}
 use Rattle.bt_state.proofs.InTurn.{MayCome, changes, present_is, short}

@@ -1,0 +1,2 @@
+pub mod AllChanged
+pub mod AllRows

@@ -1,0 +1,4 @@
+pub mod Extents
+pub mod Keys
+pub mod Plans
+pub mod Sound
