@@ -13,7 +13,7 @@ use bt_outside::{Disk, DiskFailed};
 /// gate counts for nothing, so that a crash at any moment leaves the file without the body or with
 /// all of it.
 ///
-/// After a failure the gate may be closed or opened.
+/// After a failure the gate may be closed or opened. Nothing is read.
 pub fn append<D: Disk>(disk: &mut D, file: u64, at: u64, body: &[u8]) -> Result<(), DiskFailed>
     requires room { at < 2 ^ 63 }
     requires at { D.tells → at < size (D.held disk.old) file }
@@ -22,6 +22,7 @@ pub fn append<D: Disk>(disk: &mut D, file: u64, at: u64, body: &[u8]) -> Result<
     ensures settled { D.tells → OnOk result (Settles file (D.held disk.new file) (D.may_leave disk.new)) }
     ensures others { D.tells → AtFile file Anyhow (D.held disk.old) (D.held disk.new) }
     ensures any_moment { StepsAt D.Disk file (Gated (take at (D.held disk.old file)) body.now) disk.old disk.new }
+    ensures asked { D.tells → D.asked disk.new ≡ D.asked disk.old }
     ensures limit { OnOk result (at + 1 + length body.now ≤ max_length) }
     ensures cause { OnErr result (WriteFailed D.Disk disk.old disk.new) }
     ensures faults { Counts (D.faults disk.old) (D.faults disk.new) result }
