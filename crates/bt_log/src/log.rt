@@ -1,5 +1,5 @@
 //! A segment that is open for appends.
-ghost use Rattle.std.specs.Prelude.{◌≡◌, ◌+◌, ◌<◌, ◌≤◌, ◌++◌, [], ℕ, List, length, Ok, Err, OnOk, OnErr, IfOk, IfErr};
+ghost use Rattle.std.specs.Prelude.{◌≡◌, ◌+◌, ◌<◌, ◌≤◌, ◌++◌, ◌∷◌, [], ℕ, List, length, Ok, Err, OnOk, OnErr, IfOk, IfErr};
 ghost use Rattle.std.specs.List.{AllByRecursion};
 ghost use Rattle.bt_base.specs.Counts.{counted};
 ghost use Rattle.bt_outside.specs.Disk.{size, max_length, AtFile, Alike};
@@ -48,14 +48,17 @@ impl Model for Log {
 }
 
 impl Log {
-    /// Makes the file an empty segment: cuts it to nothing, writes a closed gate, and syncs it.
+    /// Makes the file an empty segment: cuts it to nothing, writes a closed gate, and syncs it. The
+    /// file is then the one byte 0. Nothing is read.
     ///
     /// It answers no other fault than `DiskFailed`. The file may then have any bytes.
     pub fn create<D: Disk>(disk: &mut D, file: u64) -> Result<Log, LogFault>
         ensures file { IfOk result (λ log. log.file ≡ file) }
         ensures open { D.tells → IfOk result (λ log. (first : ℕ) → IsOpen log first [] (D.held disk.new) (D.may_leave disk.new)) }
+        ensures bytes { D.tells → OnOk result (D.held disk.new file ≡ 0 ∷ []) }
         ensures others { D.tells → AtFile file Anyhow (D.held disk.old) (D.held disk.new) }
         ensures any_moment { StepsAt D.Disk file Anyhow disk.old disk.new }
+        ensures asked { D.tells → D.asked disk.new ≡ D.asked disk.old }
         ensures cause { IfErr result (λ e. (e ≡ fault.DiskFailed) × WriteFailed D.Disk disk.old disk.new) }
         ensures fine { OnOk result ((D.faults disk.new ≡ D.faults disk.old) × (D.write_faults disk.new ≡ D.write_faults disk.old)) }
         ensures three { OnOk result (D.moment disk.new ≡ counted (counted (counted (D.moment disk.old)))) }
@@ -107,6 +110,7 @@ impl Log {
 
     /// Adds a record, whose body is the spelling of a batch. It makes four calls of the disk: it
     /// writes the record behind the closed gate and syncs it, and then opens the gate and syncs it.
+    /// Nothing is read.
     ///
     /// It fails only where a call failed: the segment has then its entries, with those of the record
     /// or without, and the log is only dropped, since nobody can tell which.
@@ -116,6 +120,7 @@ impl Log {
         ensures open { (first : ℕ) (entries batch : List Numbered) → IsSpellable batch → AreNumbered (first + length entries) batch → staged.now ≡ spelling batch → D.tells → IsOpen self.old first entries (D.held disk.old) (D.may_leave disk.old) → OnOk result (IsOpen self.new first (entries ++ batch) (D.held disk.new) (D.may_leave disk.new)) }
         ensures any_moment { (first : ℕ) (entries batch : List Numbered) → IsSpellable batch → AreNumbered (first + length entries) batch → staged.now ≡ spelling batch → (D.tells → IsOpen self.old first entries (D.held disk.old) (D.may_leave disk.old)) → StepsAt D.Disk self.old.file (WithOrWithout first entries batch) disk.old disk.new }
         ensures others { D.tells → AtFile self.old.file Anyhow (D.held disk.old) (D.held disk.new) }
+        ensures asked { D.tells → D.asked disk.new ≡ D.asked disk.old }
         ensures cause { OnErr result (WriteFailed D.Disk disk.old disk.new) }
         ensures fine { OnOk result ((D.faults disk.new ≡ D.faults disk.old) × (D.write_faults disk.new ≡ D.write_faults disk.old)) }
         ensures four { OnOk result (D.moment disk.new ≡ counted (counted (counted (counted (D.moment disk.old))))) }
@@ -144,6 +149,7 @@ impl Log {
         ensures open { (first : ℕ) (entries batch : List Numbered) → IsSpellable batch → AreNumbered (first + length entries) batch → body.now ≡ spelling batch → D.tells → IsOpen self.old first entries (D.held disk.old) (D.may_leave disk.old) → OnOk result (IsOpen self.new first (entries ++ batch) (D.held disk.new) (D.may_leave disk.new)) }
         ensures any_moment { (first : ℕ) (entries batch : List Numbered) → IsSpellable batch → AreNumbered (first + length entries) batch → body.now ≡ spelling batch → (D.tells → IsOpen self.old first entries (D.held disk.old) (D.may_leave disk.old)) → StepsAt D.Disk self.old.file (WithOrWithout first entries batch) disk.old disk.new }
         ensures others { D.tells → AtFile self.old.file Anyhow (D.held disk.old) (D.held disk.new) }
+        ensures asked { D.tells → D.asked disk.new ≡ D.asked disk.old }
         ensures large { limit < length body.now → result ≡ Err (fault.TooLarge (length body.now)) }
         ensures fault { IfErr result (IsAppendFault (WriteFailed D.Disk disk.old disk.new) limit (length body.now) ((disk.new ≡ disk.old) × (self.new ≡ self.old))) }
         ensures fine { OnOk result ((D.faults disk.new ≡ D.faults disk.old) × (D.write_faults disk.new ≡ D.write_faults disk.old)) }
