@@ -1,7 +1,7 @@
 //! A slot before it is written over.
-ghost use Rattle.std.specs.Prelude.{◌≡◌, ◌↔◌, [], IsTrue, IsErr, OnOk, OnErr, IfOk};
+ghost use Rattle.std.specs.Prelude.{◌≡◌, ◌↔◌, ◌+◌, ◌≤◌, [], IsTrue, IsErr, OnOk, OnErr, IfOk};
 ghost use Rattle.bt_base.specs.Counts.{Counts};
-ghost use Rattle.bt_outside.specs.Disk.{Alike, AtFile, Settles};
+ghost use Rattle.bt_outside.specs.Disk.{size, Alike, AtFile, Settles};
 ghost use Rattle.bt_crash.specs.Moments.{Keeps};
 ghost use Rattle.bt_crash.specs.Steps.{StepsAt, Anyhow};
 ghost use Rattle.bt_gate.specs.Gate.{IsReady};
@@ -16,6 +16,7 @@ pub(crate) fn close<D: Disk>(disk: &mut D, file: u64) -> Result<(), DiskFailed>
     ensures ready { D.tells → OnOk result (IsReady file [] (D.held disk.new) (D.may_leave disk.new)) }
     ensures others { D.tells → AtFile file Anyhow (D.held disk.old) (D.held disk.new) }
     ensures any_moment { StepsAt D.Disk file (SameOrClosed file) disk.old disk.new }
+    ensures asked { D.tells → D.asked disk.new ≤ D.asked disk.old + size (D.held disk.old) file }
     ensures cause { OnErr result (SlotFailed D.Disk disk.old disk.new) }
     ensures faults { Counts (D.faults disk.old) (D.faults disk.new) result }
     ensures write_faults { OnOk result (D.write_faults disk.new ≡ D.write_faults disk.old) }
@@ -34,6 +35,7 @@ fn gate_of<D: Disk>(disk: &mut D, file: u64) -> Result<Option<u8>, DiskFailed>
     ensures gate { D.tells → IfOk result (λ gate. HasGate gate (D.held disk.old file)) }
     ensures held { D.tells → Alike (D.held disk.old) (D.held disk.new) }
     ensures any_moment { Keeps D.Disk disk.old disk.new (D.may_leave disk.old) }
+    ensures asked { D.tells → D.asked disk.new ≤ D.asked disk.old + size (D.held disk.old) file }
     ensures faults { Counts (D.faults disk.old) (D.faults disk.new) result }
     ensures write_faults { D.write_faults disk.new ≡ D.write_faults disk.old }
     ensures failing { IsTrue (D.failing disk.new) ↔ IsErr result }
@@ -53,6 +55,7 @@ fn shut<D: Disk>(disk: &mut D, file: u64) -> Result<(), DiskFailed>
     ensures ready { D.tells → OnOk result (IsReady file [] (D.held disk.new) (D.may_leave disk.new)) }
     ensures others { D.tells → AtFile file Anyhow (D.held disk.old) (D.held disk.new) }
     ensures any_moment { StepsAt D.Disk file (SameOrClosed file) disk.old disk.new }
+    ensures asked { D.tells → D.asked disk.new ≡ D.asked disk.old }
     ensures faults { Counts (D.faults disk.old) (D.faults disk.new) result }
     ensures write_faults { Counts (D.write_faults disk.old) (D.write_faults disk.new) result }
     ensures failing { IsTrue (D.failing disk.new) ↔ IsErr result }

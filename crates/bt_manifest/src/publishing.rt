@@ -1,7 +1,7 @@
 //! A new snapshot in the slot that does not count.
-ghost use Rattle.std.specs.Prelude.{◌≡◌, ◌↔◌, ℕ, ◌%◌, ◌≤◌, [], Ok, Some, length, IsTrue, IsErr, OnOk, OnErr, IfOk, IfErr};
+ghost use Rattle.std.specs.Prelude.{◌≡◌, ◌↔◌, ℕ, ◌+◌, ◌%◌, ◌≤◌, [], Ok, Some, length, IsTrue, IsErr, OnOk, OnErr, IfOk, IfErr};
 ghost use Rattle.bt_base.specs.Counts.{Counts};
-ghost use Rattle.bt_outside.specs.Disk.{AtFile, Settles};
+ghost use Rattle.bt_outside.specs.Disk.{size, AtFile, Settles};
 ghost use Rattle.bt_crash.specs.Moments.{Keeps};
 ghost use Rattle.bt_crash.specs.Steps.{StepsAt, Anyhow};
 ghost use Rattle.bt_gate.specs.Gate.{IsOpened};
@@ -25,8 +25,8 @@ use std::alloc::{AllocError, Global};
 /// behind the one that counts, or 1 where no slot is opened. `Snapshot::body_length` tells whether
 /// the body keeps its limit of 1,073,741,824 bytes.
 ///
-/// It answers `OutOfMemory` before its first call of the disk, or `DiskFailed` after a call that
-/// failed, which is its last.
+/// It asks for no more bytes than the file has. It answers `OutOfMemory` before its first call of
+/// the disk, or `DiskFailed` after a call that failed, which is its last.
 pub fn publish<D: Disk>(
     alloc: Global,
     disk: &mut D,
@@ -42,6 +42,7 @@ pub fn publish<D: Disk>(
     ensures settled { D.tells → OnOk result (SlotsSettle (D.held disk.new) (D.may_leave disk.new)) }
     ensures others { D.tells → AtFile (generation % 2) Anyhow (D.held disk.old) (D.held disk.new) }
     ensures any_moment { Keeps D.Disk disk.old disk.new (OldOrNew (D.may_leave disk.old) (counting (D.held disk.old)) snapshot.now generation) }
+    ensures asked { D.tells → D.asked disk.new ≤ D.asked disk.old + size (D.held disk.old) (generation % 2) }
     ensures fault { IfErr result (IsPublishFault D.Disk disk.old disk.new) }
     ensures fine { OnOk result ((D.faults disk.new ≡ D.faults disk.old) × (D.write_faults disk.new ≡ D.write_faults disk.old)) }
 {
@@ -71,6 +72,7 @@ fn write_slot<D: Disk>(disk: &mut D, file: u64, bytes: &[u8]) -> Result<(), Disk
     ensures settled { D.tells → OnOk result (Settles file (D.held disk.new file) (D.may_leave disk.new)) }
     ensures others { D.tells → AtFile file Anyhow (D.held disk.old) (D.held disk.new) }
     ensures any_moment { StepsAt D.Disk file (SlotStep file bytes.now) disk.old disk.new }
+    ensures asked { D.tells → D.asked disk.new ≤ D.asked disk.old + size (D.held disk.old) file }
     ensures cause { OnErr result (SlotFailed D.Disk disk.old disk.new) }
     ensures faults { Counts (D.faults disk.old) (D.faults disk.new) result }
     ensures write_faults { OnOk result (D.write_faults disk.new ≡ D.write_faults disk.old) }
