@@ -1,6 +1,6 @@
 -- What the files of a disk, or of an image that a crash leaves, stand for.
 use Rattle.std.specs.Prelude.{◌≡◌, ℕ, ◌+◌, ◌%◌, ◌==◌, ◌&&◌, nat_le, nat_lt, bytes_eq, Bool, true, false, List, [], ◌∷◌, Option, None, Some, Result, Ok, Err, IsOk, if◌then◌else◌}
-use Rattle.bt_outside.specs.Disk.{Files}
+use Rattle.bt_outside.specs.Disk.{Files, size}
 use Rattle.bt_entry.specs.declared.numbered.Numbered.{Numbered}
 use Rattle.bt_log.specs.Segment.{segment}
 use Rattle.bt_manifest.specs.declared.snapshot.Segment.{Segment}
@@ -81,6 +81,20 @@ HoldsState s c = disk_state c ≡ Ok s
 -- the files are outside their format at this place
 abbrev pub IsBroken : Files → ℕ → ℕ → Type 0
 IsBroken c file at = disk_state c ≡ Err (file, at)
+
+-- the length of the file, or 0 where none is named
+abbrev pub size_if_some : Files → Option ℕ → ℕ
+size_if_some c None = 0
+size_if_some c (Some file) = size c file
+
+abbrev pub named_size : Files → Slot → ℕ
+named_size c (Err file) = 0
+named_size c (Ok None) = 0
+named_size c (Ok (Some x)) = size_if_some c (segment_of x.0)
+
+-- the length of the log that the files name, or 0 where they name none
+abbrev pub log_size : Files → ℕ
+log_size c = named_size c (counting c)
 
 -- an image stands for what one of these images stands for
 abbrev pub LikeSome : (Files → Type 0) → Files → Type 0

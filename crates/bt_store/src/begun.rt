@@ -1,5 +1,6 @@
 //! A disk on which no slot is opened.
-ghost use Rattle.std.specs.Prelude.{◌≡◌, Ok, None, IfOk, IfErr, OnOk};
+ghost use Rattle.std.specs.Prelude.{◌≡◌, ◌+◌, ◌≤◌, Ok, None, IfOk, IfErr, OnOk};
+ghost use Rattle.bt_outside.specs.Disk.{size};
 ghost use Rattle.bt_crash.specs.Moments.{Keeps};
 ghost use Rattle.bt_gate.specs.Faults.{Failed, IsDiskFault};
 ghost use Rattle.bt_manifest.specs.Slots.{SlotsSettle, counting};
@@ -30,6 +31,7 @@ pub(crate) fn begin<D: Disk>(
     requires none { D.tells → counting (D.held disk.old) ≡ Ok None }
     ensures stands { D.tells → IfOk result (λ store. Stands store empty_state (D.held disk.new) (D.may_leave disk.new)) }
     ensures any_moment { Keeps D.Disk disk.old disk.new (HoldsState empty_state) }
+    ensures asked { D.tells → D.asked disk.new ≤ D.asked disk.old + size (D.held disk.old) 1 }
     ensures fault { IfErr result (IsDiskFault (Failed D.Disk disk.old disk.new)) }
     ensures fine { OnOk result ((D.faults disk.new ≡ D.faults disk.old) × (D.write_faults disk.new ≡ D.write_faults disk.old)) }
     ensures limits { IfOk result (λ store. store.limits ≡ limits.now) }

@@ -1,5 +1,5 @@
 //! A disk whose manifest names a log.
-ghost use Rattle.std.specs.Prelude.{◌≡◌, ◌<◌, ◌≤◌, true, false, length, Ok, Some, None, OnOk, IfOk, IfErr, IfSome};
+ghost use Rattle.std.specs.Prelude.{◌≡◌, ◌+◌, ◌<◌, ◌≤◌, true, false, length, Ok, Some, None, OnOk, IfOk, IfErr, IfSome};
 ghost use Rattle.std.specs.List.{AllByRecursion};
 ghost use Rattle.bt_outside.specs.Disk.{Alike, max_length};
 ghost use Rattle.bt_entry.specs.Grammar.{IsSpellableNumbered, last_moment};
@@ -7,7 +7,7 @@ ghost use Rattle.bt_crash.specs.Moments.{Keeps};
 ghost use Rattle.bt_gate.specs.Faults.{Failed};
 ghost use Rattle.bt_manifest.specs.Slots.{SlotsSettle, counting};
 ghost use Rattle.bt_state.specs.State.{State, event_of, greatest_sequence, present_after};
-ghost use Rattle.bt_store.specs.Held.{IsBroken, disk_state, segment_of, only_segment, has_no_files, base_state, follow, may_come};
+ghost use Rattle.bt_store.specs.Held.{IsBroken, disk_state, segment_of, only_segment, has_no_files, base_state, follow, log_size, may_come};
 ghost use Rattle.bt_store.specs.Stands.{Stands};
 ghost use Rattle.bt_store.specs.Faults.{IsLoadFault, IsReplayFault};
 
@@ -35,6 +35,7 @@ pub(crate) fn load_from<D: Disk>(
     ensures stands { D.tells → IfOk result (λ store. (s : State) × (disk_state (D.held disk.old) ≡ Ok s) × Stands store s (D.held disk.new) (D.may_leave disk.new)) }
     ensures held { D.tells → Alike (D.held disk.old) (D.held disk.new) }
     ensures any_moment { Keeps D.Disk disk.old disk.new (D.may_leave disk.old) }
+    ensures asked { D.tells → D.asked disk.new ≤ D.asked disk.old + log_size (D.held disk.old) }
     ensures fault { IfErr result (IsLoadFault (Failed D.Disk disk.old disk.new) (λ file at. D.tells → IsBroken (D.held disk.old) file at)) }
     ensures fine { OnOk result ((D.faults disk.new ≡ D.faults disk.old) × (D.write_faults disk.new ≡ D.write_faults disk.old)) }
     ensures limits { IfOk result (λ store. store.limits ≡ limits.now) }

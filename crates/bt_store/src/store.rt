@@ -1,6 +1,7 @@
 //! The tables in memory, and the log that holds them.
-ghost use Rattle.std.specs.Prelude.{◌≡◌, ◌↔◌, ◌<◌, ◌≤◌, ◌+◌, ◌^◌, [], ◌∷◌, List, length, Ok, Err, OnOk, IfOk, IfErr, IsTrue, IsFalse};
+ghost use Rattle.std.specs.Prelude.{◌≡◌, ◌↔◌, ◌<◌, ◌≤◌, ◌+◌, ◌*◌, ◌^◌, [], ◌∷◌, List, length, Ok, Err, OnOk, IfOk, IfErr, IsTrue, IsFalse};
 ghost use Rattle.bt_base.specs.Counts.{counted};
+ghost use Rattle.bt_outside.specs.Disk.{size};
 ghost use Rattle.bt_entry.specs.Grammar.{AreNumbered, last_moment};
 ghost use Rattle.bt_entry.specs.Spelling.{spelling};
 ghost use Rattle.bt_crash.specs.Moments.{Keeps};
@@ -8,7 +9,7 @@ ghost use Rattle.bt_crash.specs.Changes.{StepsThrough};
 ghost use Rattle.bt_gate.specs.Faults.{Failed, WriteFailed};
 ghost use Rattle.bt_state.specs.State.{State, AreLawful, after_record, events_of, greatest_sequence, moment_used, presents_after, rows_of};
 ghost use Rattle.bt_contents.specs.Ranges.{rows_within, unread};
-ghost use Rattle.bt_store.specs.Held.{HoldsState, IsBroken, LikeSome, disk_state};
+ghost use Rattle.bt_store.specs.Held.{HoldsState, IsBroken, LikeSome, disk_state, log_size};
 ghost use Rattle.bt_store.specs.Stands.{Stands};
 ghost use Rattle.bt_store.specs.Faults.{IsTooLarge, IsRefused, IsCommitFault, IsLoadFault, IsStageFault};
 
@@ -69,6 +70,7 @@ impl Store {
     /// Loads the state that the files stand for. A disk on which no slot of the manifest is opened
     /// stands for the state before the first entry: then an empty log is made in file 2, and the
     /// manifest names it. A crash at each moment leaves files that stand for what those before did.
+    /// It asks for at most twice the bytes of the slots, and for those of the log once.
     ///
     /// It answers `Damaged` only where the files stand for no state, with the first place that is
     /// outside the format: a slot of the manifest, or a record of the log, or place 0 of the log
@@ -78,6 +80,7 @@ impl Store {
         ensures stands { D.tells → IfOk result (λ store. (s : State) × (disk_state (D.held disk.old) ≡ Ok s) × Stands store s (D.held disk.new) (D.may_leave disk.new)) }
         ensures same { D.tells → disk_state (D.held disk.new) ≡ disk_state (D.held disk.old) }
         ensures any_moment { Keeps D.Disk disk.old disk.new (LikeSome (D.may_leave disk.old)) }
+        ensures asked { D.tells → D.asked disk.new ≤ D.asked disk.old + 2 * (size (D.held disk.old) 0 + size (D.held disk.old) 1) + log_size (D.held disk.old) }
         ensures fault { IfErr result (IsLoadFault (Failed D.Disk disk.old disk.new) (λ file at. D.tells → IsBroken (D.held disk.old) file at)) }
         ensures fine { OnOk result ((D.faults disk.new ≡ D.faults disk.old) × (D.write_faults disk.new ≡ D.write_faults disk.old)) }
         ensures limits { IfOk result (λ store. store.limits ≡ limits.now) }
@@ -90,7 +93,8 @@ impl Store {
 
     /// Commits entries that may come next, all or none: adds them to the log as one record, in four
     /// calls of the disk, and makes their changes. A crash at each moment leaves the state before
-    /// the first entry or the one behind the last, and after `Ok` the one behind the last.
+    /// the first entry or the one behind the last, and after `Ok` the one behind the last. Nothing is
+    /// read.
     ///
     /// It answers `TooLarge` where the record's body, which has `length` bytes, is longer than the
     /// limit, or where sequences are not left for all entries; and `OutOfMemory`. Both come before
@@ -109,6 +113,7 @@ impl Store {
         requires lawful { AreLawful self.old.present (events_of batch) }
         ensures stands { (s : State) → D.tells → Stands self.old s (D.held disk.old) (D.may_leave disk.old) → OnOk result (Stands self.new (after_record s (events_of batch)) (D.held disk.new) (D.may_leave disk.new)) }
         ensures any_moment { (s : State) → (D.tells → Stands self.old s (D.held disk.old) (D.may_leave disk.old)) → StepsThrough D.Disk HoldsState after_record s (events_of batch ∷ []) disk.old disk.new }
+        ensures asked { D.tells → D.asked disk.new ≡ D.asked disk.old }
         ensures present { OnOk result (self.new.present ≡ presents_after self.old.present (events_of batch)) }
         ensures limits { self.new.limits ≡ self.old.limits }
         ensures large { IsTooLarge self.old batch → IsRefused (length (spelling batch)) result }
