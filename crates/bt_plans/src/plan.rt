@@ -1,5 +1,5 @@
 //! What is to be done for a line.
-ghost use Rattle.std.specs.Prelude.{◌≡◌, ◌+◌, ◌++◌, ◌≤◌, IfOk};
+ghost use Rattle.std.specs.Prelude.{◌≡◌, ◌+◌, ◌++◌, ◌∷◌, ◌≤◌, [], IfOk};
 ghost use Rattle.bt_messages.specs.Lines.{line_of, ok_line, response_data};
 ghost use Rattle.bt_messages.specs.Responses.{shown};
 ghost use Rattle.bt_messages.specs.declared.response.Response.{Response};
@@ -7,12 +7,13 @@ ghost use Rattle.bt_plans.specs.Plans.{IsPlan, answer_bytes};
 ghost use Rattle.bt_plans.specs.Replies.{changes, event};
 ghost use Rattle.bt_plans.specs.declared.answer.Answer.TheVariants as answer;
 ghost use Rattle.bt_plans.specs.declared.plan.Plan.TheVariants as plan;
-ghost use Rattle.bt_state.specs.State.{IsLawful, greatest_sequence};
+ghost use Rattle.bt_state.specs.State.{IsLawful, greatest_sequence, numbered};
 
 use crate::answer::Answer;
 use crate::read_plan::ReadPlan;
+use crate::records::put_entry;
 use bt_base::{ListOf, OutOfMemory};
-use bt_entry::{Batch, Entry, Numbered, TableInfo};
+use bt_entry::{Batch, Entry, TableInfo};
 use bt_messages::Refusal;
 use bt_state::Present;
 use std::alloc::Global;
@@ -48,15 +49,11 @@ impl Plan {
         answer: Answer,
     ) -> Result<Plan, OutOfMemory>
         requires { IsLawful present.now (event moment entry) }
-        ensures { (response : Response) → answer_bytes answer ≡ line_of (response_data (shown response)) ++ ok_line → IfOk result (λ plan. IsPlan plan present.now (changes response moment entry)) }
+        ensures whole { IfOk result (λ p. p ≡ plan.Changes ((numbered (present.now.last + 1) (event moment entry) ∷ []) ∷ []) answer) }
+        ensures reply { (response : Response) → answer_bytes answer ≡ line_of (response_data (shown response)) ++ ok_line → IfOk result (λ plan. IsPlan plan present.now (changes response moment entry)) }
     {
-        let sequence = next_sequence(present);
         let mut batch = Batch::new(alloc);
-        batch.push(Numbered {
-            sequence,
-            moment,
-            entry,
-        })?;
+        put_entry(&mut batch, next_sequence(present), moment, entry)?;
         let mut records = RecordList::new(alloc);
         records.push(batch)?;
         Ok(Plan::Changes { records, answer })

@@ -32,6 +32,7 @@ refusal_for_rules rules.TooMany = refusal.TooManyRules
 refusal_for_rules (rules.Kind index) = refusal.RuleWithoutKind
 refusal_for_rules (rules.UnknownFamily index) = refusal.FamilyNotFound
 refusal_for_rules (rules.LongQualifier index) = refusal.QualifierTooLong
+-- (rules are never refused for this by their definition)
 refusal_for_rules rules.OutOfMemory = refusal.OutOfMemory
 
 -- the refusal of a request for what the row has
@@ -39,6 +40,7 @@ abbrev pub refusal_for_row : ModifyRefusal → Refusal
 refusal_for_row (modify.NotEightBytes index) = refusal.NotEightBytes
 refusal_for_row (modify.IncrementRange index) = refusal.IncrementOutOfRange
 refusal_for_row (modify.ValueTooLarge index) = refusal.ValueTooLarge
+-- (nor are new cells)
 refusal_for_row modify.OutOfMemory = refusal.OutOfMemory
 
 -- what is wrong with the request, whatever the row has

@@ -55,6 +55,7 @@ request_refusal_line request.NotBuilt = refusal_line refusal.NotBuilt
 request_refusal_line (request.Unsupported name) = unsupported_line name
 request_refusal_line (request.BadField name) = bad_field_line name
 request_refusal_line request.BadName = refusal_line refusal.BadName
+-- (a request is never refused for this by its definition)
 request_refusal_line request.OutOfMemory = refusal_line refusal.OutOfMemory
 
 abbrev pub IsAskedReply : Present → ℕ → Result Request RequestRefusal → Reply → Type 0
@@ -66,6 +67,7 @@ abbrev pub envelope_refusal : LineRefusal → Refusal
 envelope_refusal line.NotJson = refusal.NotJson
 envelope_refusal line.BadEnvelope = refusal.BadEnvelope
 envelope_refusal line.UnknownMethod = refusal.UnknownMethod
+-- (nor is an envelope)
 envelope_refusal line.OutOfMemory = refusal.OutOfMemory
 
 abbrev pub IsEnvelopedReply : Present → ℕ → Result (Method × Data) LineRefusal → Reply → Type 0

@@ -37,7 +37,7 @@ pub fn drop_row_range(
     requires not_past { moment ≤ last_moment }
     ensures { IfOk result (λ plan. IsPlan plan present.now (drop_reply present.now moment target (table_of name.now present.now.schema))) }
 {
-    let Some(table) = present.schema().table(name) else {
+    let Some(table) = present.table(name) else {
         return Ok(Plan::refuses(Refusal::TableNotFound));
     };
     let target = match lawful_target(target) {

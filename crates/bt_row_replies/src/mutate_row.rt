@@ -28,7 +28,7 @@ pub fn mutate_row(
     requires not_past { moment ≤ last_moment }
     ensures { IfOk result (λ plan. IsPlan plan present.now (mutate_reply moment key.now mutations (table_of name.now present.now.schema))) }
 {
-    let Some(table) = present.schema().table(name) else {
+    let Some(table) = present.table(name) else {
         return Ok(Plan::refuses(Refusal::TableNotFound));
     };
     match row_entry(alloc, table, key, mutations, moment) {

@@ -33,7 +33,7 @@ pub fn mutate_rows(
     requires not_past { moment ≤ last_moment }
     ensures { IfOk result (λ plan. IsPlan plan present.now (mutate_rows_reply moment entries (table_of name.now present.now.schema))) }
 {
-    let Some(table) = present.schema().table(name) else {
+    let Some(table) = present.table(name) else {
         return Ok(Plan::refuses(Refusal::TableNotFound));
     };
     if let Err(refusal) = check_entries(entries.items()) {

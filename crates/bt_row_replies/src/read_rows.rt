@@ -27,7 +27,7 @@ pub fn read_rows(
 ) -> Result<Plan, OutOfMemory>
     ensures { IfOk result (λ plan. IsPlanOf plan present.now (IsReadReply present.now keys ranges filter rows_limit (table_of name.now present.now.schema))) }
 {
-    let Some(table) = present.schema().table(name) else {
+    let Some(table) = present.table(name) else {
         return Ok(Plan::refuses(Refusal::TableNotFound));
     };
     let Some(rows_limit) = limit_in(rows_limit) else {

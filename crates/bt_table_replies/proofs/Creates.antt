@@ -15,7 +15,7 @@ use Rattle.bt_entry.specs.declared.entry.Entry.TheVariants.{Create}
 use Rattle.bt_messages.specs.declared.refusal.Refusal.{Refusal}
 use Rattle.bt_messages.specs.declared.refusal.Refusal.TheVariants.{BadFamilyName, BadGcRule}
 use Rattle.bt_plans.specs.Replies.{event, refused_if}
-use Rattle.bt_table_replies.specs.Tables.{create_refusal, families_of, family_refusal, first_refusal, retention_refusal, retention_used}
+use Rattle.bt_table_replies.specs.Tables.{create_refusal, families_of, family_refusal, first_bad_family, retention_refusal, retention_used}
 use Rattle.bt_requests.specs.Readers.{Ascend}
 use Rattle.bt_requests.specs.declared.families.AskedFamily.{AskedFamily}
 use Rattle.bt_rules.specs.Rules.{is_lawful_or_none}
@@ -53,11 +53,11 @@ first_above n [] all = tt
 first_above n (f ∷ fs) all = all.0
 
 -- families without faults that ascend, behind these bytes
-ascend : (before : List ℕ) (fs : List AskedFamily) → first_refusal fs ≡ no_refusal → Ascend fs → IsAbove before fs → AllFrom name_of IsFamilyBehind before (families_of fs)
+ascend : (before : List ℕ) (fs : List AskedFamily) → first_bad_family fs ≡ no_refusal → Ascend fs → IsAbove before fs → AllFrom name_of IsFamilyBehind before (families_of fs)
 unfolding IsStrictlySortedBy
 ascend before [] none sorted above = tt
 ascend before (f ∷ fs) none sorted above =
-    let both = both_none (family_refusal f) (first_refusal fs) none in
+    let both = both_none (family_refusal f) (first_bad_family fs) none in
     let first = faultless f both.0 in
     let below : is_below before f.name ≡ true = ap (λ r. match_ordering r true false false) above in
     ((and_from (is_family_name f.name) (is_below before f.name) first.0 below, first.1), ascend f.name fs both.1 sorted.1 (first_above f.name fs sorted.0))
@@ -66,14 +66,14 @@ pub above_nothing : (name : List ℕ) → is_family_name name ≡ true → slice
 above_nothing [] lawful = absurd cc
 above_nothing (b ∷ bs) lawful = refl
 
-all_above : (fs : List AskedFamily) → first_refusal fs ≡ no_refusal → IsAbove [] fs
+all_above : (fs : List AskedFamily) → first_bad_family fs ≡ no_refusal → IsAbove [] fs
 all_above [] none = tt
-all_above (f ∷ fs) none = above_nothing f.name (faultless f (both_none (family_refusal f) (first_refusal fs) none).0).0
+all_above (f ∷ fs) none = above_nothing f.name (faultless f (both_none (family_refusal f) (first_bad_family fs) none).0).0
 
-lawful_rules : (fs : List AskedFamily) → first_refusal fs ≡ no_refusal → list_all (λ f. is_lawful_or_none f.rule) (families_of fs) ≡ true
+lawful_rules : (fs : List AskedFamily) → first_bad_family fs ≡ no_refusal → list_all (λ f. is_lawful_or_none f.rule) (families_of fs) ≡ true
 lawful_rules [] none = refl
 lawful_rules (f ∷ fs) none =
-    let both = both_none (family_refusal f) (first_refusal fs) none in
+    let both = both_none (family_refusal f) (first_bad_family fs) none in
     and_from (is_lawful_or_none f.rule) (list_all (λ f. is_lawful_or_none f.rule) (families_of fs)) (faultless f both.0).1 (lawful_rules fs both.1)
 
 or_true : (a b : Bool) → b ≡ true → (a || b) ≡ true
@@ -94,7 +94,7 @@ lawful_used (Some (negsuc n)) none = absurd cc
 pub may_create : (p : Present) (m : ℕ) (name : List ℕ) (asked : List AskedFamily) (retention : Option ℤ) → create_refusal p asked retention ≡ None → table_of name p.schema ≡ None → Ascend asked → is_table_name name ≡ true → p.floor ≤ m → m ≤ last_moment
     → IsLawful p (event m (Create name (families_of asked) (retention_used retention)))
 may_create p m name asked retention none absent sorted named not_before not_past =
-    let families = both_none (first_refusal asked) _ none in
+    let families = both_none (first_bad_family asked) _ none in
     let number = both_none (refused_if (nat_lt most_families (length asked)) _) _ families.1 in
     let kept = both_none (retention_refusal retention) (refused_if (nat_le most_tables (length p.schema)) _) number.1 in
     let as_many : length (families_of asked) ≡ length asked = length-map asked _ in

@@ -1,4 +1,4 @@
--- Rows that lose the cells of families.
+-- Rows that lose the cells of families, as the code comes to the records of a modification.
 use Rattle.std.specs.Prelude.{ℕ, Bool, false, List, [], ◌∷◌, ◌++◌, filter, map, bytes_eq, IsTrue}
 use Rattle.std.specs.BTreeMap.{insert_entry}
 use Rattle.std.specs.Cmp.Lexicographic.{slice_cmp}

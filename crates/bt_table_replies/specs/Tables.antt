@@ -32,9 +32,9 @@ family_refusal f =
     else None
 
 -- what is wrong with the first of them that has a fault
-abbrev pub first_refusal : List AskedFamily → Option Refusal
-first_refusal [] = None
-first_refusal (f ∷ fs) = option_or (family_refusal f) (first_refusal fs)
+abbrev pub first_bad_family : List AskedFamily → Option Refusal
+first_bad_family [] = None
+first_bad_family (f ∷ fs) = option_or (family_refusal f) (first_bad_family fs)
 
 -- a retention that was asked for is from one day to seven days
 abbrev pub is_lawful_asked : ℤ → Bool
@@ -54,7 +54,7 @@ retention_used (Some (negsuc n)) = 0
 -- what is wrong with a new table: with its families, their number, its stream, or with one more table
 abbrev pub create_refusal : Present → List AskedFamily → Option ℤ → Option Refusal
 create_refusal p families retention =
-    option_or (first_refusal families)
+    option_or (first_bad_family families)
     (option_or (refused_if (nat_lt most_families (length families)) refusal.TooManyFamilies)
     (option_or (retention_refusal retention)
     (refused_if (nat_le most_tables (length p.schema)) refusal.TooManyTables)))

@@ -43,7 +43,7 @@ pub fn create_table(
     requires not_past { moment ≤ last_moment }
     ensures { IfOk result (λ plan. IsPlan plan present.now (create_reply present.now moment name families retention (table_of name present.now.schema))) }
 {
-    if present.schema().table(&name).is_some() {
+    if present.table(&name).is_some() {
         return Ok(Plan::refuses(Refusal::TableExists));
     }
     match lawful_table(alloc, present, name, families, retention, moment) {

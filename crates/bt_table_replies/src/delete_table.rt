@@ -24,7 +24,7 @@ pub fn delete_table(
     requires not_past { moment ≤ last_moment }
     ensures { IfOk result (λ plan. IsPlan plan present.now (delete_reply moment (table_of name.now present.now.schema))) }
 {
-    let Some(table) = present.schema().table(name) else {
+    let Some(table) = present.table(name) else {
         return Ok(Plan::refuses(Refusal::TableNotFound));
     };
     let incarnation = incarnation_of(table);

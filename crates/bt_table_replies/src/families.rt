@@ -5,7 +5,7 @@ ghost use Rattle.bt_messages.specs.declared.refusal.Refusal.TheVariants as refus
 ghost use Rattle.bt_plans.specs.NoPlans.{Refuses};
 ghost use Rattle.bt_plans.specs.Replies.{refused_if};
 ghost use Rattle.bt_rules.specs.Rules.{is_lawful_or_none};
-ghost use Rattle.bt_table_replies.specs.Tables.{families_of, family_refusal, first_refusal};
+ghost use Rattle.bt_table_replies.specs.Tables.{families_of, family_refusal, first_bad_family};
 ghost use Rattle.bt_types.specs.Grammar.{is_family_name, lawful};
 
 use bt_base::OutOfMemory;
@@ -22,7 +22,7 @@ pub(crate) const MOST_FAMILIES: usize = 100;
 
 /// The families of a new table, where each name and each rule is lawful.
 pub(crate) fn lawful_families(alloc: Global, asked: AskedFamilyList) -> Result<Families, NoPlan>
-    ensures refusal { Refuses (first_refusal asked) result }
+    ensures refusal { Refuses (first_bad_family asked) result }
     ensures families { IfOk result (λ fs. fs ≡ families_of asked) }
 {
     let mut families = Families::new(alloc);

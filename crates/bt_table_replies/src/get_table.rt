@@ -15,7 +15,7 @@ use std::alloc::Global;
 pub fn get_table(alloc: Global, present: &Present, name: &TableName) -> Result<Plan, OutOfMemory>
     ensures { IfOk result (λ plan. IsPlan plan present.now (get_reply (table_of name.now present.now.schema))) }
 {
-    let Some(table) = present.schema().table(name) else {
+    let Some(table) = present.table(name) else {
         return Ok(Plan::refuses(Refusal::TableNotFound));
     };
     let lines = table_lines(alloc, table)?;

@@ -29,7 +29,7 @@ pub fn update_table(
     requires not_past { moment ≤ last_moment }
     ensures { IfOk result (λ plan. IsPlan plan present.now (update_reply present.now moment mask.now retention (table_of name.now present.now.schema))) }
 {
-    let Some(table) = present.schema().table(name) else {
+    let Some(table) = present.table(name) else {
         return Ok(Plan::refuses(Refusal::TableNotFound));
     };
     if !is_stream_mask(mask.text()) {

@@ -24,7 +24,7 @@ returns-in-Some-entry c =
     let r = changes (CheckAndMutateRow c.in-Ok.field-0.met) c.args.moment c.in-Some-entry.entry in
     let there : table_of c.args.name.now p.schema ≡ Some t = search rules in
     let led : IsCheckedReply c.args.moment t c.args.check (rows_of t.incarnation p.contents) r = search rules in
-    rw there (plan_of_some p Replies r c.changes.result led (c.changes.ensures (CheckAndMutateRow c.in-Ok.field-0.met) c.in_ok-lines-in-Ok.ensures))
+    rw there (plan_of_some p Replies r c.changes.result led (c.changes.ensures.reply (CheckAndMutateRow c.in-Ok.field-0.met) c.in_ok-lines-in-Ok.ensures))
 
 pub returns-in-None : goal.returns-in-None
 returns-in-None c =

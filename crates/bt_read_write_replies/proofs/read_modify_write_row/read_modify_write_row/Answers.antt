@@ -21,7 +21,7 @@ returns-in_ok-lines-in-Ok c =
     let is = c.in-Ok.ensures.modified in
     let there : table_of c.args.name.now p.schema ≡ Some t = search rules in
     let made = reply_made p c.args.moment t c.args.key.now c.args.rules rows c.rows_of-rows.ensures.rows x.cells x.key x.entry is.0 is.1 is.2 is.3 in
-    rw there (subst (λ (r : Reply). IfOk c.changes.result (λ plan. IsPlan plan p r)) made (c.changes.ensures (ReadModifyWriteRow x.key x.cells) c.in_ok-lines-in-Ok.ensures))
+    rw there (subst (λ (r : Reply). IfOk c.changes.result (λ plan. IsPlan plan p r)) made (c.changes.ensures.reply (ReadModifyWriteRow x.key x.cells) c.in_ok-lines-in-Ok.ensures))
 
 pub returns-in-Err-Refused : goal.returns-in-Err-Refused
 returns-in-Err-Refused c =

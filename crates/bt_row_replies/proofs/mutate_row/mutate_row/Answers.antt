@@ -28,4 +28,4 @@ returns-in-Ok c =
     let none : mutate_refusal c.args.key.now c.args.mutations t ≡ None = search rules in
     let is : c.in-Ok.entry ≡ Row t.incarnation c.args.key.now false (resolved c.args.moment c.args.mutations) = search rules in
     let found : table_of c.args.name.now c.args.present.now.schema ≡ Some t = search rules in
-    rw (found, none, ← is) (c.changes.ensures MutateRow refl)
+    rw (found, none, ← is) (c.changes.ensures.reply MutateRow refl)

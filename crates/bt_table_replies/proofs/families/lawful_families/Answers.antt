@@ -4,7 +4,7 @@ use Rattle.bt_messages.specs.declared.refusal.Refusal.{Refusal}
 use Rattle.bt_rules.specs.declared.family.Family.{Family}
 use Rattle.bt_plans.proofs.Refusing.{refuses_first}
 use Rattle.bt_plans.specs.NoPlans.{Refuses}
-use Rattle.bt_table_replies.specs.Tables.{family_refusal, first_refusal}
+use Rattle.bt_table_replies.specs.Tables.{family_refusal, first_bad_family}
 use Rattle.bt_table_replies.proofs.families.lawful_families.Goals as goal
 
 pub returns-in_err-lawful_family-clause-refusal : goal.returns-in_err-lawful_family-clause-refusal
@@ -12,7 +12,7 @@ returns-in_err-lawful_family-clause-refusal c =
     let e = c.in_err-lawful_family.field-0.0 in
     let rest = into_iter_items c.next.new.self in
     let here : Refuses {A = Family} (family_refusal c.in-Some.family) (Err e) = search rules in
-    let passed : first_refusal c.args.asked ≡ first_refusal (c.in-Some.family ∷ rest) = search rules in
-    let all : Refuses {A = List Family} (first_refusal c.args.asked) (Err e) =
-    subst (λ (o : Option Refusal). Refuses {A = List Family} o (Err e)) (sym passed) (refuses_first Family (List Family) (family_refusal c.in-Some.family) (first_refusal rest) e here) in
+    let passed : first_bad_family c.args.asked ≡ first_bad_family (c.in-Some.family ∷ rest) = search rules in
+    let all : Refuses {A = List Family} (first_bad_family c.args.asked) (Err e) =
+    subst (λ (o : Option Refusal). Refuses {A = List Family} o (Err e)) (sym passed) (refuses_first Family (List Family) (family_refusal c.in-Some.family) (first_bad_family rest) e here) in
     search rules

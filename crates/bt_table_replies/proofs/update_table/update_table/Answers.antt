@@ -15,4 +15,4 @@ returns c =
     let used : c.in-Ok.retention ≡ retention_used c.args.retention = search rules in
     let kept : c.set_retention.new.table ≡ with_retention (p.last + 1) c.args.moment c.in-Ok.retention t = search rules in
     rw (found, update_reply-is p c.args.moment c.args.mask.now c.args.retention t mask none c.in-Ok.retention used c.set_retention.new.table kept)
-    (c.changes.ensures (UpdateTable c.set_retention.new.table) (search rules))
+    (c.changes.ensures.reply (UpdateTable c.set_retention.new.table) (search rules))
