@@ -10,7 +10,7 @@ use Rattle.bt_gate.specs.declared.log_fault.LogFault.TheVariants as fault
 use Rattle.bt_outside.specs.declared.disk.Disk.{Ghosts}
 use Rattle.bt_service.specs.Commits.{AreThere, CommitsSo, fault_of}
 use Rattle.bt_service.specs.Turns.{fitting, is_too_large}
-use Rattle.bt_service.specs.declared.records.ChangeFault.TheVariants as change
+use Rattle.bt_service.specs.declared.committing.ChangeFault.TheVariants as change
 use Rattle.bt_service.proofs.Progress.{none_there}
 use Rattle.bt_service.proofs.Sizes.{either, fits_first, fits_not, large_true, true_large}
 use Rattle.bt_state.specs.State.{Event, Present, State, after_record, events_of}

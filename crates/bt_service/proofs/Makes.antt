@@ -19,8 +19,8 @@ use Rattle.bt_service.specs.Steps.{EndsIf, Leaves, Made}
 use Rattle.bt_service.specs.Turns.{GoesSo, How, ended, refused_on_the_way, whole, fitting, tried_by, unless_too_large}
 use Rattle.bt_service.specs.declared.outcome.Outcome.{Outcome}
 use Rattle.bt_service.specs.declared.outcome.Outcome.TheVariants.{Says}
-use Rattle.bt_service.specs.declared.records.ChangeFault.{ChangeFault}
-use Rattle.bt_service.specs.declared.records.ChangeFault.TheVariants as change
+use Rattle.bt_service.specs.declared.committing.ChangeFault.{ChangeFault}
+use Rattle.bt_service.specs.declared.committing.ChangeFault.TheVariants as change
 use Rattle.bt_service.proofs.Progress.{after_same, none_there}
 use Rattle.bt_service.proofs.Sizes.{cut, cut_records, is_cut, not_cut}
 use Rattle.bt_state.specs.State.{Event, State, after_record, after_records}

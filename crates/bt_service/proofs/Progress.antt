@@ -6,8 +6,8 @@ use Rattle.bt_crash.proofs.Chains.{OnlyNow, chained, not_begun, promises}
 use Rattle.bt_outside.specs.declared.disk.Disk.{Ghosts}
 use Rattle.bt_service.specs.Commits.{AreThere, CommitsSo}
 use Rattle.bt_service.specs.Turns.{fitting, is_too_large}
-use Rattle.bt_service.specs.declared.records.ChangeFault.{ChangeFault}
-use Rattle.bt_service.specs.declared.records.ChangeFault.TheVariants.{DiskFailed, OutOfMemory, TooLarge}
+use Rattle.bt_service.specs.declared.committing.ChangeFault.{ChangeFault}
+use Rattle.bt_service.specs.declared.committing.ChangeFault.TheVariants.{DiskFailed, OutOfMemory, TooLarge}
 use Rattle.bt_service.proofs.Sizes.{either, fits_first, fits_not}
 use Rattle.bt_state.specs.State.{Event, Present, State, after, after_record, after_records}
 use Rattle.bt_store.specs.Held.{HoldsState}

@@ -5,8 +5,8 @@ use Rattle.bt_gate.specs.declared.log_fault.LogFault.{LogFault}
 use Rattle.bt_gate.specs.declared.log_fault.LogFault.TheVariants as fault
 use Rattle.bt_outside.specs.declared.disk.Disk.{Ghosts}
 use Rattle.bt_service.specs.Turns.{fitting}
-use Rattle.bt_service.specs.declared.records.ChangeFault.{ChangeFault}
-use Rattle.bt_service.specs.declared.records.ChangeFault.TheVariants.{DiskFailed, OutOfMemory, TooLarge}
+use Rattle.bt_service.specs.declared.committing.ChangeFault.{ChangeFault}
+use Rattle.bt_service.specs.declared.committing.ChangeFault.TheVariants.{DiskFailed, OutOfMemory, TooLarge}
 use Rattle.bt_state.specs.State.{Event, State, after_record, after_records}
 use Rattle.bt_store.specs.Held.{HoldsState}
 use Rattle.bt_store.specs.Stands.{Seen, Stands}

@@ -12,8 +12,8 @@ use Rattle.bt_service.specs.declared.handled.Handled.{Handled}
 use Rattle.bt_service.specs.declared.handled.Handled.TheVariants.{Answered, DiskEnded, LinkLost}
 use Rattle.bt_service.specs.declared.outcome.Outcome.{Outcome}
 use Rattle.bt_service.specs.declared.outcome.Outcome.TheVariants.{Reads, Says}
-use Rattle.bt_service.specs.declared.records.ChangeFault.{ChangeFault}
-use Rattle.bt_service.specs.declared.records.ChangeFault.TheVariants.{DiskFailed, OutOfMemory, TooLarge}
+use Rattle.bt_service.specs.declared.committing.ChangeFault.{ChangeFault}
+use Rattle.bt_service.specs.declared.committing.ChangeFault.TheVariants.{DiskFailed, OutOfMemory, TooLarge}
 use Rattle.bt_state.specs.State.{Present, State}
 use Rattle.bt_store.specs.Stands.{Seen, Stands}
 

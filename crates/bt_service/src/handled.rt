@@ -7,7 +7,7 @@ ghost use Rattle.bt_service.specs.Steps.{KeepsConnections, Turned};
 ghost use Rattle.bt_state.specs.State.{State};
 ghost use Rattle.bt_store.specs.Stands.{Stands};
 
-use crate::outcome::made;
+use crate::carrying::made;
 use crate::writing::written;
 use bt_outside::{Disk, LinkFailed, Links};
 use bt_store::Store;

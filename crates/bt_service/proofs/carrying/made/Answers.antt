@@ -8,7 +8,7 @@ use Rattle.bt_service.specs.Outcomes.{SaysSo, has_ended}
 use Rattle.bt_service.specs.Steps.{Made, MadeBy}
 use Rattle.bt_service.specs.declared.outcome.Outcome.{Outcome}
 use Rattle.bt_service.proofs.Makes.{made_without_memory, so_said}
-use Rattle.bt_service.proofs.outcome.made.Goals as goal
+use Rattle.bt_service.proofs.carrying.made.Goals as goal
 
 pub carried_out-requires-clause-plan : goal.carried_out-requires-clause-plan
 carried_out-requires-clause-plan g c =

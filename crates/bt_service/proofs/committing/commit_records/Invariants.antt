@@ -5,7 +5,7 @@ use Rattle.bt_service.specs.Outcomes.{FailsIf}
 use Rattle.bt_service.proofs.Progress.{Progress}
 use Rattle.bt_state.specs.State.{State, events_of}
 use Rattle.bt_store.specs.Stands.{Stands}
-use Rattle.bt_service.proofs.records.commit_records.Given as goal
+use Rattle.bt_service.proofs.committing.commit_records.Given as goal
 
 abbrev pub invariant-loop-batch : goal.invariant-loop-batch
 invariant-loop-batch g l = record {

@@ -8,7 +8,7 @@ use Rattle.bt_service.proofs.Progress.{Progress, begins, ends, goes_on, state_he
 use Rattle.bt_state.specs.State.{Present, events_of}
 use Rattle.bt_store.proofs.Loads.{nothing_left}
 use Rattle.bt_store.specs.declared.limits.Limits.{Limits}
-use Rattle.bt_service.proofs.records.commit_records.Goals as goal
+use Rattle.bt_service.proofs.committing.commit_records.Goals as goal
 
 pub loop-batch-init : goal.loop-batch-init
 loop-batch-init g c =

@@ -8,7 +8,7 @@ use Rattle.bt_service.specs.Steps.{Made}
 use Rattle.bt_service.specs.declared.outcome.Outcome.{Outcome}
 use Rattle.bt_service.proofs.Makes.{made_changes, made_read, made_said, so_said, usable_changes}
 use Rattle.bt_state.specs.State.{Event, Present}
-use Rattle.bt_service.proofs.outcome.carried_out.Goals as goal
+use Rattle.bt_service.proofs.carrying.carried_out.Goals as goal
 
 pub returns-in-Says-clause-made : goal.returns-in-Says-clause-made
 returns-in-Says-clause-made g c tells s stands r plan =

@@ -1,9 +1,9 @@
 use Rattle.std.proofs.Common.{[], ◌∷◌, Err, sym, subst}
 use Rattle.bt_service.specs.Commits.{CommitsSo}
-use Rattle.bt_service.specs.declared.records.ChangeFault.{ChangeFault}
+use Rattle.bt_service.specs.declared.committing.ChangeFault.{ChangeFault}
 use Rattle.bt_service.proofs.Alone.{committed, not_committed, refused_large}
 use Rattle.bt_state.specs.State.{events_of}
-use Rattle.bt_service.proofs.records.commit_record.Goals as goal
+use Rattle.bt_service.proofs.committing.commit_record.Goals as goal
 
 pub returns-then-is_too_large-clause-commits : goal.returns-then-is_too_large-clause-commits
 returns-then-is_too_large-clause-commits g c tells s stands =
