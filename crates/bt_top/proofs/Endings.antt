@@ -17,7 +17,7 @@ use Rattle.bt_store.specs.Stands.{Seen}
 use Rattle.bt_store.specs.declared.limits.Limits.{Limits}
 use Rattle.bt_store.proofs.Holds.{holds_same, reads_log}
 use Rattle.bt_top.specs.Crashes.{IsBeforeOrAfter, Survives, SurvivesFrom}
-use Rattle.bt_top.specs.Ends.{Ended, EndedRun, EndedSession, exit_of, is_disk_fault}
+use Rattle.bt_top.specs.Ends.{Ended, EndedRun, EndedSession, IsOfLoading, exit_of, is_disk_fault}
 use Rattle.bt_top.specs.Steps.{LeavesIf}
 use Rattle.bt_top.specs.declared.exit.Exit.{Exit}
 use Rattle.bt_top.proofs.Sessions.{none_acknowledged}
@@ -76,7 +76,7 @@ module _ {D : Type 0} (disk : Ghosts D) where
         number = session.number;
         ended = session.ended;
         ran = session.ran;
-        ends = λ e. sym session.ends ∙ e;
+        ends = inl session.ends;
         holds = holds_at_end (is_disk_fault exit) store session.new new session.leaves;
         survives = from_load its_first _ _ old mid new load session.survives;
       }))
@@ -101,7 +101,7 @@ module _ {D : Type 0} (disk : Ghosts D) where
       cause = inl refl;
       complete = λ going k. tt;
     };
-    ends = λ e. absurd (cc);
+    ends = inr refl;
     holds = same ∙ holds;
     survives = from_none s old new load;
   }
@@ -117,3 +117,12 @@ unserved_so fault.OutOfMemory count left = refl
 -- how a run ends that could not load the tables
 pub unserved_ends : (exit : Exit) (e : LogFault) (count : ℕ) (left : List (List ℕ)) → exit ≡ exit_of e → Ended exit count 0 left
 unserved_ends exit e count left is = subst (λ (x : Exit). Ended x count 0 left) (sym is) (unserved_so e count left)
+
+loading_so : (e : LogFault) → IsOfLoading (exit_of e)
+loading_so fault.DiskFailed = tt
+loading_so (fault.Damaged file at) = tt
+loading_so (fault.TooLarge n) = tt
+loading_so fault.OutOfMemory = tt
+
+pub unloaded_ends : (exit : Exit) (e : LogFault) → exit ≡ exit_of e → IsOfLoading exit
+unloaded_ends exit e is = subst IsOfLoading (sym is) (loading_so e)

@@ -47,6 +47,15 @@ IsOfSession DiskFault = Unit {0}
 IsOfSession (Damaged file at) = ⊥
 IsOfSession LinkFault = Unit {0}
 
+-- a run ends so where the tables were not loaded
+abbrev pub IsOfLoading : Exit → Type 0
+IsOfLoading Done = ⊥
+IsOfLoading Usage = ⊥
+IsOfLoading OutOfMemory = Unit {0}
+IsOfLoading DiskFault = Unit {0}
+IsOfLoading (Damaged file at) = Unit {0}
+IsOfLoading LinkFault = ⊥
+
 -- how a run ends that could not load the tables
 abbrev pub exit_of : LogFault → Exit
 exit_of fault.DiskFailed = DiskFault
@@ -125,7 +134,7 @@ pub record EndedRun {D : Type 0} (disk : Ghosts D) (exit : Exit) (limits : Limit
   pub number : ℕ
   pub ended : Ended exit count number new_left
   pub ran : Ran (is_disk_fault exit) limits s new left new_left sent new_sent told new_told number faults new_faults
-  -- a talk ended the run only where the disk failed; it may have failed before any talk, while the tables were loaded
-  pub ends : list_any talk_ended ran.run.talks ≡ true → is_disk_fault exit ≡ true
+  -- the run ended in a talk exactly where the disk failed; or nothing was served, since the tables were not loaded
+  pub ends : (list_any talk_ended ran.run.talks ≡ is_disk_fault exit) ⊎ (number ≡ 0)
   pub holds : HoldsState new (disk.held new_disk)
   pub survives : SurvivesFrom disk s (all_tried ran.run.talks) (all_turns ran.run.talks) old_disk new_disk

@@ -3,9 +3,10 @@ ghost use Rattle.std.specs.Prelude.{◌≡◌, ◌⊎◌, ℕ, None, Some, IsSom
 ghost use Rattle.bt_base.specs.Counts.{Risen};
 ghost use Rattle.bt_gate.specs.Faults.{Failed};
 ghost use Rattle.bt_state.specs.State.{State};
-ghost use Rattle.bt_store.specs.Held.{HoldsState, IsBroken, IsSound};
+ghost use Rattle.bt_crash.specs.Moments.{Keeps};
+ghost use Rattle.bt_store.specs.Held.{HoldsState, IsBroken, IsSound, LikeSome, disk_state};
 ghost use Rattle.bt_words.specs.Words.{command_of};
-ghost use Rattle.bt_top.specs.Ends.{EndedRun, WhereItFailed, connections_of, exit_of, standard_limits};
+ghost use Rattle.bt_top.specs.Ends.{EndedRun, IsOfLoading, WhereItFailed, connections_of, exit_of, standard_limits};
 
 use crate::exit::Exit;
 use crate::serving::session;
@@ -44,6 +45,9 @@ pub fn bigtable<D: Disk, L: Links<D>, C: Clock, P: Print>(
     ensures disk_fault { result ≡ Exit.DiskFault → Failed D.Disk disk.old disk.new × WhereItFailed D.Disk disk.old disk.new ((links.new ≡ links.old) × (clock.new ≡ clock.old)) }
     ensures damaged { (file at : ℕ) → result ≡ Exit.Damaged file at → (D.tells → IsBroken (D.held disk.old) file at) × (links.new ≡ links.old) × (clock.new ≡ clock.old) }
     ensures unsound { D.tells → (IsSound (D.held disk.old) → ⊥) → (links.new ≡ links.old) × (clock.new ≡ clock.old) }
+    ensures unsound_exit { D.tells → (IsSound (D.held disk.old) → ⊥) → IsSome (command_of words.now) → IsOfLoading result }
+    ensures unsound_stays { D.tells → (IsSound (D.held disk.old) → ⊥) → disk_state (D.held disk.new) ≡ disk_state (D.held disk.old) }
+    ensures unsound_images { D.tells → (IsSound (D.held disk.old) → ⊥) → Keeps D.Disk disk.old disk.new (LikeSome (D.may_leave disk.old)) }
     ensures link_fault { result ≡ Exit.LinkFault → Risen (L.next_faults links.old) (L.next_faults links.new) }
     ensures no_fault { IsSome (command_of words.now) → D.tells → IsSound (D.held disk.old) → (Risen (D.faults disk.old) (D.faults disk.new) → ⊥) → (Risen (L.next_faults links.old) (L.next_faults links.new) → ⊥) → (result ≡ Exit.Done) ⊎ (result ≡ Exit.OutOfMemory) }
 
@@ -82,6 +86,9 @@ fn served<D: Disk, L: Links<D>, C: Clock>(
     ensures disk_fault { result ≡ Exit.DiskFault → Failed D.Disk disk.old disk.new × WhereItFailed D.Disk disk.old disk.new ((links.new ≡ links.old) × (clock.new ≡ clock.old)) }
     ensures damaged { (file at : ℕ) → result ≡ Exit.Damaged file at → (D.tells → IsBroken (D.held disk.old) file at) × (links.new ≡ links.old) × (clock.new ≡ clock.old) }
     ensures unsound { D.tells → (IsSound (D.held disk.old) → ⊥) → (links.new ≡ links.old) × (clock.new ≡ clock.old) }
+    ensures unsound_exit { D.tells → (IsSound (D.held disk.old) → ⊥) → IsOfLoading result }
+    ensures unsound_stays { D.tells → (IsSound (D.held disk.old) → ⊥) → disk_state (D.held disk.new) ≡ disk_state (D.held disk.old) }
+    ensures unsound_images { D.tells → (IsSound (D.held disk.old) → ⊥) → Keeps D.Disk disk.old disk.new (LikeSome (D.may_leave disk.old)) }
     ensures link_fault { result ≡ Exit.LinkFault → Risen (L.next_faults links.old) (L.next_faults links.new) }
 {
     match Store::load(alloc, disk, &Limits::standard()) {
