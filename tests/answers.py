@@ -8,6 +8,7 @@ The program `bt_answers` is run on the lines (crates/bt_answers/stdin) and has t
 """
 import sys
 
+import boundaries
 import checks
 import filters
 import reads
@@ -17,9 +18,11 @@ import updates
 def main(words):
     if words not in (["lines"], ["replies"]):
         sys.exit(__doc__)
-    for pairs in (checks.pairs(), filters.pairs(), reads.pairs(), updates.pairs()):
+    sys.stdout.reconfigure(encoding="utf-8")
+    for pairs in (checks.pairs(), filters.pairs(), reads.pairs(), updates.pairs(), boundaries.pairs()):
         for line, replies in pairs:
-            print(line if words == ["lines"] else "\n".join(replies))
+            for text in [line] if words == ["lines"] else replies:
+                print(text)
 
 
 main(sys.argv[1:])
