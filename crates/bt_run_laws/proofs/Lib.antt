@@ -1,0 +1,10 @@
+mod Asked
+mod Json
+mod ReadWrites
+mod Reading
+mod Refusals
+mod Replying
+mod Rows
+mod Running
+mod Tables
+mod Turning
