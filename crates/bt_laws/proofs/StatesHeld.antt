@@ -14,7 +14,7 @@ use Rattle.bt_manifest.specs.declared.snapshot.Snapshot.{Snapshot}
 use Rattle.bt_manifest.specs.Slots.{Slot, counting}
 use Rattle.bt_state.specs.State.{IsLawful, State, after, empty_state, event_of, greatest_sequence, is_allowed}
 use Rattle.bt_store.specs.Held.{Place, after_segment, after_snapshot, base_state, follow, has_no_files, may_come, no_tables, only_segment, or_place, segment_of, state_of}
-use Rattle.bt_laws.specs.Disks.{AreFiles, HeldValid}
+use Rattle.bt_laws.specs.Disks.{AreFilesOfBytes, HeldValid}
 use Rattle.bt_laws.specs.States.{IsValid}
 use Rattle.bt_laws.proofs.StatesAfter.{empty_valid, valid_after}
 use Rattle.bt_laws.proofs.StatesRead.{segment_read}
@@ -77,7 +77,7 @@ stood s = Ok s
 stood_is : (s t : State) → stood s ≡ stood t → s ≡ t
 stood_is s t e = cc
 
-module _ (c : Files) (files : AreFiles c) (s : State) where
+module _ (c : Files) (files : AreFilesOfBytes c) (s : State) where
   module _ (x : Snapshot) (floor : x.floor ≤ last_moment) where
     placed_by : (file : ℕ) (entries : List Numbered) (o : Option State) → follow (base_state x) entries ≡ o → ((t : State) → o ≡ found t → IsValid t) → or_place (file, 0) o ≡ stood s → IsValid s
     placed_by file entries None is valid e = absurd cc

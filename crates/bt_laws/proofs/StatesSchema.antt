@@ -28,7 +28,7 @@ use Rattle.bt_schema.proofs.Altered.{gone}
 use Rattle.bt_state.specs.State.{AreMade}
 use Rattle.bt_state.proofs.Made.{none_past}
 use Rattle.bt_state.proofs.Maps.{sorted_insert}
-use Rattle.bt_laws.specs.States.{AreApart, IsTableAt}
+use Rattle.bt_laws.specs.States.{HaveOwnIncarnations, IsTableAt}
 
 -- ---- the table of an incarnation
 
@@ -272,15 +272,15 @@ module _ (last floor moment : ℕ) where
     earlier n true is le = let same : last + 1 ≡ n = eqb-true (last + 1) n is in absurd (omega (arith, same, le))
     earlier n false is le = refl
 
-    apart_by : (t : List ℕ × TableInfo) (ts : Schema) (r : Ordering) → slice_cmp nat_cmp name t.0 ≡ r → table_of name (t ∷ ts) ≡ None → AllByRecursion (IsTableAt last floor) (t ∷ ts) → AreApart (t ∷ ts)
-        → (table_of name ts ≡ None → AreApart (insert_entry (slice_cmp nat_cmp) ts name info)) → AreApart (match_ordering r ((name, info) ∷ t ∷ ts) ((t.0, info) ∷ ts) (t ∷ insert_entry (slice_cmp nat_cmp) ts name info))
+    apart_by : (t : List ℕ × TableInfo) (ts : Schema) (r : Ordering) → slice_cmp nat_cmp name t.0 ≡ r → table_of name (t ∷ ts) ≡ None → AllByRecursion (IsTableAt last floor) (t ∷ ts) → HaveOwnIncarnations (t ∷ ts)
+        → (table_of name ts ≡ None → HaveOwnIncarnations (insert_entry (slice_cmp nat_cmp) ts name info)) → HaveOwnIncarnations (match_ordering r ((name, info) ∷ t ∷ ts) ((t.0, info) ∷ ts) (t ∷ insert_entry (slice_cmp nat_cmp) ts name info))
     apart_by t ts Less is free all apart rest = (none_past last (last + 1) (omega arith) (t ∷ ts) (made_of last floor (t ∷ ts) all), apart)
     apart_by t ts Equal is free all apart rest = absurd (cc (rw is at free))
     apart_by t ts Greater is free all apart rest =
         let behind : table_of name ts ≡ None = rw is at free in
         (at_insert t.1.incarnation name info (earlier t.1.incarnation (last + 1 == t.1.incarnation) refl all.0.made.1) ts behind ∙ apart.0, rest behind)
 
-    apart_insert : (ts : Schema) → table_of name ts ≡ None → AllByRecursion (IsTableAt last floor) ts → AreApart ts → AreApart (insert_entry (slice_cmp nat_cmp) ts name info)
+    apart_insert : (ts : Schema) → table_of name ts ≡ None → AllByRecursion (IsTableAt last floor) ts → HaveOwnIncarnations ts → HaveOwnIncarnations (insert_entry (slice_cmp nat_cmp) ts name info)
     apart_insert [] free all apart = (refl, tt)
     apart_insert (t ∷ ts) free all apart = apart_by t ts (slice_cmp nat_cmp name t.0) refl free all apart (λ behind. apart_insert ts behind all.1 apart.1)
 
@@ -289,11 +289,11 @@ module _ (last floor moment : ℕ) where
     none_by n ts true is none = let same : incarnation ≡ n = eqb-true incarnation n is in subst (λ m. table_at m (without incarnation ts) ≡ None) same (gone [] incarnation ts)
     none_by n ts false is none = at_without n incarnation ts is ∙ none
 
-    gone_by : (t : List ℕ × TableInfo) (ts : Schema) (b : Bool) → table_at t.1.incarnation ts ≡ None → AreApart ts → AreApart (cond b (t ∷ ts) ts)
+    gone_by : (t : List ℕ × TableInfo) (ts : Schema) (b : Bool) → table_at t.1.incarnation ts ≡ None → HaveOwnIncarnations ts → HaveOwnIncarnations (cond b (t ∷ ts) ts)
     gone_by t ts true none rest = (none, rest)
     gone_by t ts false none rest = rest
 
-    apart_without : (ts : Schema) → AreApart ts → AreApart (without incarnation ts)
+    apart_without : (ts : Schema) → HaveOwnIncarnations ts → HaveOwnIncarnations (without incarnation ts)
     apart_without [] apart = tt
     apart_without (t ∷ ts) apart =
         gone_by t (without incarnation ts) (not (t.1.incarnation == incarnation)) (none_by t.1.incarnation ts (incarnation == t.1.incarnation) refl apart.0) (apart_without ts apart.1)
@@ -303,13 +303,13 @@ module _ (last floor moment : ℕ) where
       same_by t true = keeps t.1
       same_by t false = refl
 
-      apart_changed : (ts : Schema) → AreApart ts → AreApart (changed_at incarnation change ts)
+      apart_changed : (ts : Schema) → HaveOwnIncarnations ts → HaveOwnIncarnations (changed_at incarnation change ts)
       apart_changed [] apart = tt
       apart_changed (t ∷ ts) apart =
           let none : table_at t.1.incarnation (changed_at incarnation change ts) ≡ None = at_changed t.1.incarnation incarnation change keeps ts ∙ ap (option_map (changed t.1.incarnation incarnation change keeps)) apart.0 in
           (ap (λ n. table_at n (changed_at incarnation change ts)) (same_by t (t.1.incarnation == incarnation)) ∙ none, apart_changed ts apart.1)
 
-  pub apart_after : (e : Entry) (ts : Schema) → change_refusal e ts ≡ None → AllByRecursion (IsTableAt last floor) ts → AreApart ts → AreApart (schema_after (last + 1) moment e ts)
+  pub apart_after : (e : Entry) (ts : Schema) → change_refusal e ts ≡ None → AllByRecursion (IsTableAt last floor) ts → HaveOwnIncarnations ts → HaveOwnIncarnations (schema_after (last + 1) moment e ts)
   apart_after (Row incarnation key by_rule mutations) ts allowed all apart = apart
   apart_after (Create name families retention) ts allowed all apart = apart_insert name families retention ts (is_free name families retention ts allowed) all apart
   apart_after (Delete incarnation) ts allowed all apart = apart_without incarnation ts apart

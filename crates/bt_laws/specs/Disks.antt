@@ -11,9 +11,9 @@ abbrev pub AreBytes : List ℕ → Type 0
 AreBytes bytes = AllByRecursion (λ b. b < 256) bytes
 
 -- each file has bytes, not more than a file may have
-abbrev pub AreFiles : Files → Type 0
-AreFiles c = (file : ℕ) → AreBytes (c file) × (length (c file) ≤ max_length)
+abbrev pub AreFilesOfBytes : Files → Type 0
+AreFilesOfBytes c = (file : ℕ) → AreBytes (c file) × (length (c file) ≤ max_length)
 
 -- the state that files stand for is valid
 abbrev pub HeldValid : Type 0
-HeldValid = (s : State) (c : Files) → AreFiles c → HoldsState s c → IsValid s
+HeldValid = (s : State) (c : Files) → AreFilesOfBytes c → HoldsState s c → IsValid s

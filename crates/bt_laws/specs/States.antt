@@ -23,8 +23,9 @@ use Rattle.bt_laws.specs.Tables.{AreLawfulRows}
 abbrev pub AreNumberedTo : ℕ → List Numbered → Type 0
 AreNumberedTo last history = (length history ≤ last) × AreNumbered (last + 1 - length history) history
 
+-- the moment that the next entry must not be before
 abbrev pub moment_of : ℕ → Numbered → ℕ
-moment_of before n = n.moment
+moment_of _ n = n.moment
 
 -- no entry is of an earlier moment than the one before it
 abbrev pub NeverFall : List Numbered → Type 0
@@ -33,9 +34,9 @@ NeverFall history = AllFrom moment_of (λ before n. before ≤ n.moment) 0 histo
 -- ---- tables without their rows
 
 -- no two tables have the same incarnation
-abbrev pub AreApart : Schema → Type 0
-AreApart [] = Unit {0}
-AreApart (t ∷ ts) = (table_at t.1.incarnation ts ≡ None) × AreApart ts
+abbrev pub HaveOwnIncarnations : Schema → Type 0
+HaveOwnIncarnations [] = Unit {0}
+HaveOwnIncarnations (t ∷ ts) = (table_at t.1.incarnation ts ≡ None) × HaveOwnIncarnations ts
 
 -- a table and the name at which it stands, where this is the last sequence and the greatest moment
 pub record IsTableAt (last floor : ℕ) (t : List ℕ × TableInfo) : Type 0 where
@@ -89,7 +90,7 @@ pub record IsValid (s : State) : Type 0 where
   -- tables stand in the order of their names, so names differ
   pub sorted : IsStrictlySortedBy (slice_cmp nat_cmp) (keys_of s.present.schema)
   -- incarnations differ
-  pub apart : AreApart s.present.schema
+  pub apart : HaveOwnIncarnations s.present.schema
   -- there are not too many tables
   pub few : length s.present.schema ≤ most_tables
   -- each table is one that entries made

@@ -12,7 +12,7 @@ use Rattle.bt_messages.specs.declared.refusal.Refusal.{Refusal}
 use Rattle.bt_plans.specs.Replies.{Reply, unless_refused}
 use Rattle.bt_schema.specs.Schema.{Schema, name_is, table_at, table_of}
 use Rattle.bt_state.specs.State.{AreLawful, AreOrdered, Event, IsLawful, Present, State, after, after_record, families_of, presents_after, rows_of}
-use Rattle.bt_laws.specs.States.{AreApart, AreLawfulRecords, AreRowsOf, IsTableAt, IsValid}
+use Rattle.bt_laws.specs.States.{HaveOwnIncarnations, AreLawfulRecords, AreRowsOf, IsTableAt, IsValid}
 
 -- the records may come one after another
 abbrev pub ComeInTurn : Present → List (List Event) → Type 0
@@ -57,7 +57,7 @@ some_same a b e = cc
 
 module _ (name : List ℕ) (t : TableInfo) where
   -- the table that has the name is the one of its incarnation
-  own_table : (ts : Schema) → lookup (name_is name) ts ≡ Some t → AreApart ts → table_at t.incarnation ts ≡ Some t
+  own_table : (ts : Schema) → lookup (name_is name) ts ≡ Some t → HaveOwnIncarnations ts → table_at t.incarnation ts ≡ Some t
   own_table [] e apart = absurd cc
   own_table (u ∷ us) e apart = by (name_is name u.0) e (λ later. own_table us later apart.1)
     where

@@ -4,8 +4,9 @@ ghost use Rattle.bt_run_laws.specs.Runs.{RunsValid, StatesValid, TurnsValid};
 
 use bt_laws::{reads_join, states_valid};
 
-/// A run from a valid state leads to a valid one, by valid states alone: the first of its records do,
-/// however many, and so do its turns, one after another. The state that files stand for is valid
+/// The records of a run from a valid state may come in turn, and the state behind any first ones of
+/// them is valid, that behind all of them included. Each of its turns is one in the state that the
+/// turns before it leave, which is valid. The state that files stand for is valid
 /// (`bt_laws::states_held`).
 pub fn runs_valid()
     ensures records { RunsValid }
@@ -15,8 +16,8 @@ pub fn runs_valid()
     states_valid();
 }
 
-/// In a run from a valid state, a client joins from the reply to a read, where it is not refused, the
-/// rows that were asked for, of the state before it.
+/// In a run from a valid state, a read is refused, or a client joins from its whole reply, however
+/// much of that was written, the rows that were asked for, of the state before it.
 pub fn run_reads_join()
     ensures { RunReadsJoin }
 {
