@@ -33,8 +33,8 @@ fn two_of_three(alloc: Global) -> Result<String, StoreFault> {
     Ok(line)
 }
 
-// The links of the example in one piece. Their first call is `next`, the second one a read, then each
-// line of a reply has a write but that the last two share one, and the read behind them fails.
+// The links of the example in one piece. Their first call is `next`, and the second one a read. Then
+// the first two replies have a write each, and that of the read has two; the read behind them fails.
 fn failing_links(alloc: Global) -> Result<MemoryLinks, OutOfMemory> {
     let whole = joined(alloc, &[CREATE, SET, READ])?;
     let mut links = links_of(alloc, &[&whole])?;

@@ -75,8 +75,8 @@ const LOG_EDITS: &[Edit] = &[
     Edit::Keep(0),
 ];
 
-// The generation of a slot is 1 up to place 8, the length of its body 38 at 12, and the file of its
-// segment 2 at 48.
+// The generation of a slot ends at 8 and the length of its body at 12; the file of its segment begins
+// at 41.
 const SLOT_EDITS: &[Edit] = &[
     Edit::Put(0, 0),
     Edit::Put(8, 0),

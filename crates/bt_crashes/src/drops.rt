@@ -1,9 +1,10 @@
 //! A DropRowRange of 2,500 rows on disks that stop.
 
 use crate::example::CREATE;
-use crate::runs::image_after;
+use crate::runs::{image_after, joined};
 use crate::trials::{Stage, Trial, stops};
 use bt_base::OutOfMemory;
+use bt_outside::DiskImage;
 use bt_store::StoreFault;
 use std::alloc::Global;
 
@@ -72,14 +73,16 @@ fn rows_lines(alloc: Global) -> Result<Vec<u8>, OutOfMemory> {
     Ok(lines)
 }
 
-/// It stopped at each call of its three records.
-pub fn lines(alloc: Global) -> Result<String, StoreFault> {
-    let made = rows_lines(alloc)?;
-    let before = image_after(alloc, &made)?;
+const DROPPED: &[u8] = b"{\"response\":{}}\n{\"status\":{}}\n";
+
+const NO_ROW: &[u8] = b"{\"status\":{}}\n";
+
+fn drop_once(alloc: Global, before: &DiskImage) -> Result<String, StoreFault> {
     let trial = Trial {
         name: "2500 rows dropped",
         change: DROP,
         read: READ,
+        records: 3,
         stages: &[
             Stage {
                 reply: ALL,
@@ -94,10 +97,36 @@ pub fn lines(alloc: Global) -> Result<String, StoreFault> {
                 words: "2000 rows gone",
             },
             Stage {
-                reply: b"{\"status\":{}}\n",
+                reply: NO_ROW,
                 words: "2500 rows gone",
             },
         ],
     };
-    stops(alloc, &trial, &before)
+    stops(alloc, &trial, before)
+}
+
+// The same request is sent again after the crash.
+fn drop_again(alloc: Global, before: &DiskImage) -> Result<String, StoreFault> {
+    let read = joined(alloc, &[DROP, READ])?;
+    let reply = joined(alloc, &[DROPPED, NO_ROW])?;
+    let trial = Trial {
+        name: "2500 rows dropped and again",
+        change: DROP,
+        read: &read,
+        records: 3,
+        stages: &[Stage {
+            reply: &reply,
+            words: "no rows",
+        }],
+    };
+    stops(alloc, &trial, before)
+}
+
+/// It stopped at each call of its three records.
+pub fn lines(alloc: Global) -> Result<String, StoreFault> {
+    let made = rows_lines(alloc)?;
+    let before = image_after(alloc, &made)?;
+    let mut lines = drop_once(alloc, &before)?;
+    lines.push_str(drop_again(alloc, &before)?.as_str())?;
+    Ok(lines)
 }

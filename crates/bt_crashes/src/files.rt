@@ -33,13 +33,25 @@ fn file_line(
     Ok(line)
 }
 
+// The log after a line that makes or changes a table.
+fn log_line(
+    alloc: Global,
+    disk: &mut MemoryDisk,
+    bytes: &[u8],
+    after: &str,
+    widths: &[usize],
+) -> Result<String, StoreFault> {
+    let _served = serve(alloc, disk, bytes)?;
+    let line = file_line(alloc, disk, 2, after, widths)?;
+    Ok(line)
+}
+
 /// What the log holds after a table was made and after a cell was set, and the manifest.
 pub fn lines(alloc: Global) -> Result<String, StoreFault> {
     let mut disk = new_disk(alloc);
-    let _served = serve(alloc, &mut disk, CREATE)?;
-    let mut lines = file_line(alloc, &disk, 2, "CreateTable", FIRST_RECORD)?;
-    let _served = serve(alloc, &mut disk, SET)?;
-    lines.push_str(file_line(alloc, &disk, 2, "MutateRow", BOTH_RECORDS)?.as_str())?;
-    lines.push_str(file_line(alloc, &disk, 1, "MutateRow", SLOT)?.as_str())?;
+    let first = log_line(alloc, &mut disk, CREATE, "CreateTable", FIRST_RECORD)?;
+    let both = log_line(alloc, &mut disk, SET, "MutateRow", BOTH_RECORDS)?;
+    let slot = file_line(alloc, &disk, 1, "MutateRow", SLOT)?;
+    let lines = format!(in alloc; "{first}{both}{slot}")?;
     Ok(lines)
 }

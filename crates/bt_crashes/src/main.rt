@@ -2,6 +2,7 @@
 //! files hold, what a crash leaves of them, and how runs end that fail or meet a limit.
 #![tactic(auto)]
 
+mod bodies;
 mod bounds;
 mod connections;
 mod damages;
@@ -29,6 +30,7 @@ fn all_lines(alloc: Global) -> Result<String, StoreFault> {
     lines.push_str(damages::lines(alloc)?.as_str())?;
     lines.push_str(connections::lines(alloc)?.as_str())?;
     lines.push_str(bounds::lines(alloc)?.as_str())?;
+    lines.push_str(bodies::lines(alloc)?.as_str())?;
     Ok(lines)
 }
 

@@ -53,6 +53,7 @@ fn set_rows(alloc: Global) -> Result<String, StoreFault> {
         name: "MutateRows",
         change: SET_ROWS,
         read: READ,
+        records: 1,
         stages: &[
             Stage {
                 reply: b"{\"status\":{}}\n",
@@ -74,6 +75,7 @@ fn drop_family(alloc: Global) -> Result<String, StoreFault> {
         name: "family dropped",
         change: DROP_FAMILY,
         read: &read,
+        records: 1,
         stages: &[
             Stage {
                 reply: UNDROPPED,

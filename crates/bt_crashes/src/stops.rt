@@ -3,22 +3,21 @@
 use crate::disks::{disk_of, fail, new_disk, stop};
 use crate::example::{CREATE, NO_ROW, NO_TABLE, READ, ROW, SET};
 use crate::runs::{calls_to_load, image_after, run, serve};
-use crate::trials::{Span, Stage, Trial, find, find_in_images, stops};
+use crate::trials::{Stage, Trial, find, find_in_images, stops};
 use bt_outside::{DiskImage, FileList, MemoryDisk};
 use bt_store::StoreFault;
 use std::alloc::Global;
 
-// What a set whose sync fails shows, where its row may be there or not.
+// What the change shows on a disk where one of its syncs fails.
 fn unsynced(
     alloc: Global,
     trial: &Trial<'_>,
     disk: &mut MemoryDisk,
     call: u64,
 ) -> Result<String, StoreFault> {
-    let both = Span { least: 0, most: 1 };
     let outcome = serve(alloc, disk, trial.change)?.words(alloc)?;
-    let images = find_in_images(alloc, trial, disk, both)?;
-    let again = find(alloc, trial, disk, both)?;
+    let images = find_in_images(alloc, trial, disk)?;
+    let again = find(alloc, trial, disk)?;
     let name = trial.name;
     let line = format!(in alloc;
         "{name}, sync at call {call} fails: {outcome}; loaded again: {again}; images 0 to 3: {images}\n"
@@ -43,6 +42,7 @@ fn sets(alloc: Global) -> Result<String, StoreFault> {
         name: "set",
         change: SET,
         read: READ,
+        records: 1,
         stages: &[
             Stage {
                 reply: NO_ROW,
@@ -66,7 +66,7 @@ fn stopped_loading(alloc: Global, trial: &Trial<'_>, call: u64) -> Result<String
     let mut disk = new_disk(alloc);
     stop(&mut disk, call);
     let outcome = run(alloc, &mut disk, trial.read)?.words(alloc)?;
-    let found = find_in_images(alloc, trial, &disk, Span { least: 0, most: 0 })?;
+    let found = find_in_images(alloc, trial, &disk)?;
     let line = format!(in alloc; "{outcome}; images 0 to 3: {found}\n")?;
     Ok(line)
 }
@@ -95,6 +95,7 @@ fn first_loadings(alloc: Global) -> Result<String, StoreFault> {
         name: "first loading",
         change: CREATE,
         read: READ,
+        records: 1,
         stages: &[Stage {
             reply: NO_TABLE,
             words: "no table",
