@@ -13,8 +13,8 @@ use std::collections::BTreeMap;
 
 const LATEST: i64 = 9223372036854775000;
 
-/// A part of a row: the cells of a family, or those of a column between two times. It is covered by the
-/// keys from the first one on that are of its family, or of its column and not before the start, in
+/// A part of a row: the cells of a family, or those of a column between two times. It covers the keys
+/// from the first one on that are of its family, or of its column and not before the start, in
 /// microseconds.
 #[derive(Drop)]
 pub enum Extent {

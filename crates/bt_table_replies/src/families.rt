@@ -17,7 +17,7 @@ use bt_types::FamilyName;
 use std::alloc::Global;
 use std::str;
 
-/// A table has no more families (`google.bigtable.admin.v2.Table.column_families`).
+/// A table has no more families, which is this service's own limit.
 pub(crate) const MOST_FAMILIES: usize = 100;
 
 /// The families of a new table, where each name and each rule is lawful.

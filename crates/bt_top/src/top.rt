@@ -22,10 +22,11 @@ use std::alloc::Global;
 /// `run DIR` loads the tables that the disk holds and serves one connection, and
 /// `serve DIR ADDRESS COUNT` so many connections, one after another. The folder and the address are
 /// the caller's to give to the disk and the links. The clauses speak of the disk, the links and the
-/// clock where they tell what they hold: `run` says that what was written is a run of the abstract service from the state that the disk held, with each
-/// connection's mark and its cause, that the disk holds the state after it, that a crash at each
-/// moment leaves the state after a prefix of its records with every acknowledged one, and that the
-/// run is complete where no fault was counted.
+/// clock where they tell what they hold: `run` says that what was written is a run of the abstract
+/// service from the state that the disk held, with each connection's mark and its cause, that the
+/// disk holds the state after it, that a crash at each moment leaves the state after a prefix of its
+/// records with every acknowledged one, and that the run is complete where no fault was counted.
+/// Over files that stand for no state nothing is served, and they stay broken at the same place.
 pub fn bigtable<D: Disk, L: Links<D>, C: Clock, P: Print>(
     alloc: Global,
     words: &TextList,

@@ -50,7 +50,7 @@ impl Plain for Cell {
 }
 
 /// Family ascending, qualifier ascending, timestamp descending, as rows are read
-/// (`google.bigtable.v2.ReadRowsResponse`; the order of families is this service's own).
+/// (`google.bigtable.v2.Family.columns`, `Column.cells`; the order of families is this service's own).
 pub fn cell_order(a: &Cell, b: &Cell) -> Ordering
     ensures { result ≡ cell_cmp a.now b.now }
 {

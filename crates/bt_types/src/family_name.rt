@@ -8,7 +8,7 @@ use std::alloc::Global;
 use std::marker::Model;
 
 /// The name of a column family: 1 to 64 characters of `[-_.a-zA-Z0-9]`
-/// (`google.bigtable.admin.v2`, `ModifyColumnFamiliesRequest`). A contract sees its bytes.
+/// (`google.bigtable.v2.Family.name`). A contract sees its bytes.
 #[derive(Debug, Drop)]
 pub struct FamilyName {
     held: String,
