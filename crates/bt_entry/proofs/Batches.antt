@@ -6,11 +6,14 @@ use Rattle.std.specs.Int.{w32, w64, to_be_bytes}
 use Rattle.std.proofs.lemmas.Bool.{eqb-true, leb-true, le-leb}
 use Rattle.std.proofs.lemmas.List.{append-nil, nil_from_length}
 use Rattle.bt_entry.specs.declared.numbered.Numbered.{Numbered}
-use Rattle.bt_entry.specs.Grammar.{last_moment, AllFrom, next_sequence, IsSpellableNumbered, RulesFitIn, IsSpellable, AreNumbered}
-use Rattle.bt_entry.specs.Spelling.{list, entry, numbered, spelling}
-use Rattle.bt_entry.specs.Reading.{◌>>=◌, number_with, counted_at, entry_at, numbered_at, entries_at, batch_at}
-use Rattle.bt_entry.proofs.Codecs.{IsBytes, bind_ok, chosen, ok_is, Takes, Takes-then, IsCodec, wide32}
-use Rattle.bt_entry.proofs.Many.{counted_codec}
+use Rattle.bt_codec.specs.Lists.{AllFrom}
+use Rattle.bt_entry.specs.Grammar.{last_moment, next_sequence, IsSpellableNumbered, RulesFitIn, IsSpellable, AreNumbered}
+use Rattle.bt_codec.specs.Spelling.{list}
+use Rattle.bt_entry.specs.Spelling.{entry, numbered, spelling}
+use Rattle.bt_codec.specs.Reading.{◌>>=◌, number_with, counted_at}
+use Rattle.bt_entry.specs.Reading.{entry_at, numbered_at, entries_at, batch_at}
+use Rattle.bt_codec.proofs.Codecs.{IsBytes, bind_ok, chosen, ok_is, Takes, Takes-then, IsCodec, wide32}
+use Rattle.bt_codec.proofs.Many.{counted_codec}
 use Rattle.bt_entry.proofs.Laws.{moment_codec}
 use Rattle.bt_entry.proofs.EntryLaws.{entry_codec}
 

@@ -9,10 +9,13 @@ use Rattle.bt_rules.specs.declared.family.Family.{Family}
 use Rattle.bt_entry.specs.declared.entry.Entry.{Entry}
 use Rattle.bt_entry.specs.declared.entry.Entry.TheVariants.{Row, Create, Delete, Alter, Stream, Floor}
 use Rattle.bt_entry.specs.Grammar.{is_retention, is_lawful_retention, IsSpellableMutation, IsSpellableMutations, IsSpellableEntry, RulesFitIn}
-use Rattle.bt_entry.specs.Spelling.{text, list, mutation, family, row_tag, entry}
-use Rattle.bt_entry.specs.Reading.{◌>>=◌, Reads, number_at, number_with, text_with, counted_at, mutations_at, family_list_at, row_at, create_at, delete_at, alter_at, stream_at, entry_at}
-use Rattle.bt_entry.proofs.Codecs.{IsBytes, bind_ok, ok_is, Takes, Takes-then, IsCodec, u8_codec, by_tag, no_value, behind}
-use Rattle.bt_entry.proofs.Laws.{u64_codec, retention_codec, key_codec, table_codec, families_codec, mutations_codec, each_of, of_each}
+use Rattle.bt_codec.specs.Spelling.{text, list}
+use Rattle.bt_entry.specs.Spelling.{mutation, family, row_tag, entry}
+use Rattle.bt_codec.specs.Reading.{◌>>=◌, Reads, number_at, number_with, text_with, counted_at}
+use Rattle.bt_entry.specs.Reading.{mutations_at, family_list_at, row_at, create_at, delete_at, alter_at, stream_at, entry_at}
+use Rattle.bt_codec.proofs.Codecs.{IsBytes, bind_ok, ok_is, Takes, Takes-then, IsCodec, u8_codec, by_tag, no_value, behind, u64_codec}
+use Rattle.bt_codec.proofs.Items.{each_of, of_each}
+use Rattle.bt_entry.proofs.Laws.{retention_codec, key_codec, table_codec, families_codec, mutations_codec}
 
 -- it can be written, and the numbers of its rules fit
 abbrev pub CanBeEntry : Entry → Type 0
@@ -34,7 +37,7 @@ row_takes by_rule bytes x rest fits e =
     let e02 = Takes-then bytes (to_be_bytes w64 a.0.0) a.0.1 (text w16 b.0.0 ++ list w32 mutation c.0.0) c.0.1 t0.0 e12 in
     let made : Entry × List ℕ = (Row a.0.0 b.0.0 by_rule c.0.0, c.0.1) in
     let whole : Takes (row_tag by_rule ∷ bytes) (entry (Row a.0.0 b.0.0 by_rule c.0.0)) c.0.1 = behind (row_tag by_rule) bytes _ c.0.1 e02 in
-    let all : IsSpellableMutations c.0.0 = (leb-true _ _ t2.1.1, t2.1.0, each_of IsSpellableMutation [] c.0.0 t2.1.2) in
+    let all : IsSpellableMutations c.0.0 = (leb-true _ _ t2.1.1, t2.1.0, each_of IsSpellableMutation 0 c.0.0 t2.1.2) in
     subst (λ (y : Entry × List ℕ). Takes (row_tag by_rule ∷ bytes) (entry y.0) y.1 × CanBeEntry y.0) (ok_is made (x, rest) c.2) (whole, ((t0.1, t1.1, all), tt))
 
 create_takes : (bytes : List ℕ) (x : Entry) (rest : List ℕ) → IsBytes bytes → create_at bytes ≡ Ok (x, rest) → Takes (3 ∷ bytes) (entry x) rest × CanBeEntry x
@@ -119,7 +122,7 @@ row_again by_rule i key ms rest fits =
     let parts : (to_be_bytes w64 i ++ (text w16 key ++ list w32 mutation ms)) ++ rest ≡ to_be_bytes w64 i ++ (text w16 key ++ (list w32 mutation ms ++ rest)) =
     append_assoc (to_be_bytes w64 i) (text w16 key ++ list w32 mutation ms) rest ∙ ap (λ (x : List ℕ). to_be_bytes w64 i ++ x) (append_assoc (text w16 key) (list w32 mutation ms) rest) in
     let all = fits.2 in
-    ap (row_at by_rule) parts ∙ rw (u64_codec.again i (text w16 key ++ (list w32 mutation ms ++ rest)) fits.0, key_codec.again key (list w32 mutation ms ++ rest) fits.1, mutations_codec.again ms rest (all.1, le-leb _ _ all.0, of_each IsSpellableMutation [] ms all.2)) refl
+    ap (row_at by_rule) parts ∙ rw (u64_codec.again i (text w16 key ++ (list w32 mutation ms ++ rest)) fits.0, key_codec.again key (list w32 mutation ms ++ rest) fits.1, mutations_codec.again ms rest (all.1, le-leb _ _ all.0, of_each IsSpellableMutation 0 ms all.2)) refl
 
 -- 0 and the retentions of streams fit 8 bytes
 retention_small : (r : ℕ) → IsTrue (is_retention r) → r < 2 ^ 64

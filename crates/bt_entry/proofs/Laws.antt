@@ -1,7 +1,6 @@
 -- The two laws of each record: what is read is spelled so, and what is spelled so is read.
 use Rattle.std.proofs.Common.{◌≡◌, ℕ, ◌^◌, ◌<◌, ◌≤◌, true, cond, eqb, List, [], ◌∷◌, ◌++◌, length, Ok, Err, refl, ap, subst, ◌∙◌, append_assoc, arith}
 use Rattle.std.specs.Prelude.{nat_le, nat_lt, ◌==◌, ◌%◌, IsTrue}
-use Rattle.std.specs.List.{AllByRecursion}
 use Rattle.std.specs.Int.{w8, w16, w32, w64, to_be_bytes}
 use Rattle.std.proofs.lemmas.Bool.{and_parts, ltb-true, leb-true, le-leb}
 use Rattle.bt_types.specs.Grammar.{is_row_key, is_qualifier, is_family_name, is_table_name}
@@ -9,16 +8,16 @@ use Rattle.bt_types.specs.Time.{is_micros}
 use Rattle.bt_types.specs.declared.mutation.Mutation.{Mutation}
 use Rattle.bt_types.specs.declared.mutation.Mutation.TheVariants.{SetCell, DeleteColumn, DeleteFamily, DeleteRow}
 use Rattle.bt_rules.specs.declared.family.Family.{Family}
-use Rattle.bt_entry.specs.Grammar.{last_moment, last_time, most_of_value, most_families, is_retention, AllFrom, is_below, is_family_behind, name_of, IsFamilyBehind, AreSpellableFamilies, RulesFit, rule_or_none_fits, IsSpellableMutation}
-use Rattle.bt_entry.specs.Spelling.{text, list, mutation, family, rule_or_none}
-use Rattle.bt_entry.specs.Reading.{◌>>=◌, Reads, number_at, number_with, text_at, text_with, time_at, anywhere, counted_at, set_cell_at, delete_column_at, delete_family_at, mutation_at, rule_or_none_at, family_at, mutations_at, family_list_at}
+use Rattle.bt_codec.specs.Lists.{AllFrom}
+use Rattle.bt_entry.specs.Grammar.{last_moment, last_time, most_of_value, most_families, is_retention, is_below, is_family_behind, name_of, IsFamilyBehind, AreSpellableFamilies, RulesFit, rule_or_none_fits, IsSpellableMutation}
+use Rattle.bt_codec.specs.Spelling.{text, list}
+use Rattle.bt_entry.specs.Spelling.{mutation, family, rule_or_none}
+use Rattle.bt_codec.specs.Reading.{◌>>=◌, Reads, number_at, number_with, text_at, text_with, anywhere, counted_at}
+use Rattle.bt_entry.specs.Reading.{time_at, set_cell_at, delete_column_at, delete_family_at, mutation_at, rule_or_none_at, family_at, mutations_at, family_list_at}
 use Rattle.bt_entry.proofs.LawfulNames.{family_len, table_len, key_len, qualifier_len}
-use Rattle.bt_entry.proofs.Codecs.{IsBytes, bind_ok, ok_is, Takes, Takes-then, IsCodec, wide8, wide16, wide32, wide64, number_codec, tested_codec, text_codec, name_codec, u8_codec, by_tag, no_value, behind}
-use Rattle.bt_entry.proofs.Many.{counted_codec}
+use Rattle.bt_codec.proofs.Codecs.{IsBytes, bind_ok, ok_is, Takes, Takes-then, IsCodec, wide8, wide16, wide32, wide64, tested_codec, text_codec, name_codec, u8_codec, by_tag, no_value, behind}
+use Rattle.bt_codec.proofs.Many.{counted_codec}
 use Rattle.bt_entry.proofs.RuleLaws.{rule_or_none_codec}
-
-pub u64_codec : IsCodec (number_at w64) (to_be_bytes w64) (λ n. n < 2 ^ 64)
-u64_codec = number_codec w64 (2 ^ 64) wide64
 
 micros_codec : IsCodec (number_with w64 is_micros) (to_be_bytes w64) (λ n. (n < 2 ^ 64) × (is_micros n ≡ true))
 micros_codec = tested_codec w64 (2 ^ 64) wide64 is_micros
@@ -200,13 +199,5 @@ mutation_again DeleteRow rest fits = rw (u8_codec.again 4 rest (omega arith)) re
 mutation_codec : IsCodec mutation_at mutation IsSpellableMutation
 mutation_codec = record { takes = mutation_takes; again = mutation_again }
 
-pub mutations_codec : IsCodec (counted_at w32 (λ n. nat_le 1 n) mutations_at) (list w32 mutation) (λ ms. (length ms < 2 ^ 32) × (nat_le 1 (length ms) ≡ true) × AllFrom anywhere (λ _. IsSpellableMutation) [] ms)
-mutations_codec = counted_codec w32 (2 ^ 32) wide32 (λ n. nat_le 1 n) (λ _. mutation_at) anywhere mutation (λ _. IsSpellableMutation) (λ _. mutation_codec) []
-
-pub each_of : {A : Type 0} (P : A → Type 0) (s : List ℕ) (xs : List A) → AllFrom anywhere (λ _. P) s xs → AllByRecursion P xs
-each_of P s [] all = tt
-each_of P s (x ∷ xs) all = (all.0, each_of P s xs all.1)
-
-pub of_each : {A : Type 0} (P : A → Type 0) (s : List ℕ) (xs : List A) → AllByRecursion P xs → AllFrom anywhere (λ _. P) s xs
-of_each P s [] all = tt
-of_each P s (x ∷ xs) all = (all.0, of_each P s xs all.1)
+pub mutations_codec : IsCodec (counted_at w32 (λ n. nat_le 1 n) mutations_at) (list w32 mutation) (λ ms. (length ms < 2 ^ 32) × (nat_le 1 (length ms) ≡ true) × AllFrom anywhere (λ _. IsSpellableMutation) 0 ms)
+mutations_codec = counted_codec w32 (2 ^ 32) wide32 (λ n. nat_le 1 n) (λ _. mutation_at) anywhere mutation (λ _. IsSpellableMutation) (λ _. mutation_codec) 0

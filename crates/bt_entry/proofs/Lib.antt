@@ -1,8 +1,6 @@
 pub mod LawfulNames
 pub mod Parts
 pub mod RuleTrees
-pub mod Codecs
-pub mod Many
 pub mod RuleLaws
 pub mod Laws
 pub mod EntryLaws

@@ -8,11 +8,14 @@ use Rattle.std.proofs.lemmas.Bool.{and_parts, and_from, ltb-true, lt-ltb, leb-tr
 use Rattle.bt_rules.specs.declared.rule.Rule.{Rule}
 use Rattle.bt_rules.specs.declared.rule.Rule.TheVariants.{Versions, Age, Intersection, Union}
 use Rattle.bt_rules.specs.Rules.{count_of, depth_of, greatest, is_well_formed, is_lawful_or_none, all_of, all_of_some}
-use Rattle.bt_entry.specs.Grammar.{AllFrom, rule_fits, rule_or_none_fits}
-use Rattle.bt_entry.specs.Spelling.{list, rule, rule_or_none}
-use Rattle.bt_entry.specs.Reading.{◌>>=◌, Reads, number_at, number_with, many_at, versions_at, age_at, left_behind, parts_at, node_at, rule_at, rule_or_none_at}
-use Rattle.bt_entry.proofs.Codecs.{IsBytes, bind_ok, chosen, ok_is, Takes, Takes-then, Taking, ReadAgain, IsCodec, wide8, wide32, wide64, tested_codec, u8_codec, by_tag, no_value, behind, tagged}
-use Rattle.bt_entry.proofs.Many.{many_take, many_again}
+use Rattle.bt_codec.specs.Lists.{AllFrom}
+use Rattle.bt_entry.specs.Grammar.{rule_fits, rule_or_none_fits}
+use Rattle.bt_codec.specs.Spelling.{list}
+use Rattle.bt_entry.specs.Spelling.{rule, rule_or_none}
+use Rattle.bt_codec.specs.Reading.{◌>>=◌, Reads, number_at, number_with, many_at}
+use Rattle.bt_entry.specs.Reading.{versions_at, age_at, left_behind, parts_at, node_at, rule_at, rule_or_none_at}
+use Rattle.bt_codec.proofs.Codecs.{IsBytes, bind_ok, chosen, ok_is, Takes, Takes-then, Taking, ReadAgain, IsCodec, wide8, wide32, wide64, tested_codec, u8_codec, by_tag, no_value, behind, tagged}
+use Rattle.bt_codec.proofs.Many.{many_take, many_again}
 use Rattle.bt_entry.proofs.RuleTrees.{IsLeaf, IsBranch, versions_leaf, age_leaf, intersection_branch, union_branch, rule_cases, has_nodes, has_levels, length_within, counts-cons}
 
 -- a rule of so many levels, where so many further nodes are left

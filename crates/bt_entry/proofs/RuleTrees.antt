@@ -13,7 +13,8 @@ use Rattle.bt_rules.specs.declared.rule.Rule.TheViews.{roll-Rule}
 use Rattle.bt_rules.specs.declared.rule.Rule.TheFolds.{fold-roll-Rule, ind-Rule}
 use Rattle.bt_rules.specs.Rules.{count_of, node_count, depth_of, node_depth, greatest, is_well_formed, is_well_formed_node, all_of, all_of_some}
 use Rattle.bt_entry.specs.Grammar.{node_fits, rule_fits}
-use Rattle.bt_entry.specs.Spelling.{list, rule, rule_node}
+use Rattle.bt_codec.specs.Spelling.{list}
+use Rattle.bt_entry.specs.Spelling.{rule, rule_node}
 use Rattle.bt_entry.specs.Reading.{left_behind, node_at, rule_at}
 
 -- ---- spelling

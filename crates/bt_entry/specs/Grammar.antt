@@ -1,8 +1,9 @@
 -- Which batches can be written: all else is outside the format.
-use Rattle.std.specs.Prelude.{◌≡◌, ℕ, ◌+◌, ◌<◌, ◌≤◌, ◌^◌, ◌==◌, ◌&&◌, ◌||◌, nat_le, nat_lt, Bool, true, false, Option, Some, None, List, [], ◌∷◌, length, fold, IsTrue}
+use Rattle.std.specs.Prelude.{◌≡◌, ℕ, ◌+◌, ◌<◌, ◌≤◌, ◌^◌, ◌==◌, ◌&&◌, ◌||◌, nat_le, nat_lt, Bool, true, false, Option, Some, None, List, [], length, fold, IsTrue}
 use Rattle.std.specs.List.{AllByRecursion}
 use Rattle.std.specs.Ordering.{nat_cmp, match_ordering}
 use Rattle.std.specs.Cmp.Lexicographic.{slice_cmp}
+use Rattle.bt_codec.specs.Lists.{AllFrom}
 use Rattle.bt_types.specs.Grammar.{is_row_key, is_qualifier, is_family_name, is_table_name}
 use Rattle.bt_types.specs.Time.{is_micros}
 use Rattle.bt_types.specs.declared.mutation.Mutation.{Mutation}
@@ -39,11 +40,6 @@ is_lawful_retention r = nat_le 86400000000 r && nat_le r 604800000000
 -- 0 is for no stream
 abbrev pub is_retention : ℕ → Bool
 is_retention r = r == 0 || is_lawful_retention r
-
--- each item fits where it stands, and next goes on behind it
-abbrev pub AllFrom : {S A : Type 0} → (S → A → S) → (S → A → Type 0) → S → List A → Type 0
-AllFrom next Fits s [] = Unit {0}
-AllFrom next Fits s (x ∷ xs) = Fits s x × AllFrom next Fits (next s x) xs
 
 -- the first bytes come before the second
 abbrev pub is_below : List ℕ → List ℕ → Bool

@@ -1,12 +1,11 @@
 -- Reading from left to right. A fault is the number of bytes that are left where the first bad field begins.
-use Rattle.std.specs.Prelude.{◌≡◌, ℕ, zero, suc, ◌+◌, ◌-◌, Bool, true, false, Option, Some, None, List, [], ◌∷◌, length, take, drop, Result, Ok, Err, nat_lt, nat_le, ◌==◌, ◌&&◌, if◌then◌else◌}
-use Rattle.std.specs.Int.{Width, w8, w16, w32, w64, byte_len, from_be_bytes}
+use Rattle.std.specs.Prelude.{◌≡◌, ℕ, zero, suc, ◌-◌, Bool, true, false, Option, Some, None, List, [], length, Result, Ok, Err, nat_le, ◌==◌, ◌&&◌, if◌then◌else◌}
+use Rattle.std.specs.Int.{w8, w16, w32, w64}
+use Rattle.bt_codec.specs.Reading.{◌>>=◌, Reads, number_at, number_with, text_at, text_with, many_at, anywhere, counted_at, placed}
 use Rattle.bt_types.specs.Grammar.{is_row_key, is_qualifier, is_family_name, is_table_name}
 use Rattle.bt_types.specs.Time.{is_micros}
 use Rattle.bt_types.specs.declared.mutation.Mutation.{Mutation}
 use Rattle.bt_types.specs.declared.mutation.Mutation.TheVariants.{SetCell, DeleteColumn, DeleteFamily, DeleteRow}
-use Rattle.bt_entry.specs.declared.fault.Fault.{Fault}
-use Rattle.bt_entry.specs.declared.fault.Fault.TheVariants as fault
 use Rattle.bt_entry.specs.declared.fault.BatchRefusal.{BatchRefusal}
 use Rattle.bt_entry.specs.declared.fault.BatchRefusal.TheVariants as refusal
 use Rattle.bt_rules.specs.declared.family.Family.{Family}
@@ -17,50 +16,6 @@ use Rattle.bt_entry.specs.declared.entry.Entry.{Entry}
 use Rattle.bt_entry.specs.declared.entry.Entry.TheVariants.{Row, Create, Delete, Alter, Stream, Floor}
 use Rattle.bt_entry.specs.declared.numbered.Numbered.{Numbered}
 use Rattle.bt_entry.specs.Grammar.{last_moment, last_time, most_of_value, most_families, is_family_behind, is_retention, name_of, next_sequence}
-
-infixl 10 ◌>>=◌
-abbrev pub ◌>>=◌ : {A B : Type 0} → Result A ℕ → (A → Result B ℕ) → Result B ℕ
-(Ok x) >>= f = f x
-(Err left) >>= f = Err left
-
--- a field that was read, and the bytes behind it
-abbrev pub Reads : Type 0 → Type 0
-Reads A = Result (A × List ℕ) ℕ
-
-abbrev pub number_at : Width → List ℕ → Reads ℕ
-number_at w bytes = if nat_lt (length bytes) (byte_len w) then Err (length bytes) else Ok (from_be_bytes w (take (byte_len w) bytes), drop (byte_len w) bytes)
-
--- a number that passes a test
-unfoldable pub number_with : Width → (ℕ → Bool) → List ℕ → Reads ℕ
-number_with w passes bytes = do
-  n ← number_at w bytes
-  if passes n.0 then Ok n else Err (length bytes)
-
--- a text whose length lies between least and most
-unfoldable pub text_at : Width → ℕ → ℕ → List ℕ → Reads (List ℕ)
-text_at w least most bytes = do
-  n ← number_with w (λ n. nat_le least n && nat_le n most) bytes
-  if nat_lt (length n.1) n.0 then Err (length n.1) else Ok (take n.0 n.1, drop n.0 n.1)
-
--- such a text that passes a test, which is made at its bytes
-unfoldable pub text_with : Width → ℕ → ℕ → (List ℕ → Bool) → List ℕ → Reads (List ℕ)
-text_with w least most passes bytes = do
-  t ← text_at w least most bytes
-  if passes t.0 then Ok t else Err (length t.0 + length t.1)
-
--- so many items, one behind the other
-unfoldable pub many_at : {S A : Type 0} → (S → List ℕ → Reads A) → (S → A → S) → S → ℕ → List ℕ → Reads (List A)
-many_at read next s zero bytes = Ok ([], bytes)
-many_at read next s (suc n) bytes = do
-  first ← read s bytes
-  others ← many_at read next (next s first.0) n first.1
-  Ok (first.0 ∷ others.0, others.1)
-
--- a list: a count that passes a test, and so many items
-unfoldable pub list_at : {S A : Type 0} → Width → (ℕ → Bool) → (S → List ℕ → Reads A) → (S → A → S) → S → List ℕ → Reads (List A)
-list_at w passes read next s bytes = do
-  n ← number_with w passes bytes
-  many_at read next s n.0 n.1
 
 unfoldable pub set_cell_at : List ℕ → Reads Mutation
 set_cell_at bytes = do
@@ -150,21 +105,11 @@ family_at before bytes = do
   rule ← rule_or_none_at name.1
   Ok (record { name = name.0; rule = rule.0 }, rule.1)
 
--- mutations fit wherever they stand
-abbrev pub anywhere : {A : Type 0} → List ℕ → A → List ℕ
-anywhere s x = s
-
 abbrev pub mutations_at : ℕ → List ℕ → Reads (List Mutation)
-mutations_at count bytes = many_at (λ _. mutation_at) anywhere [] count bytes
+mutations_at count bytes = many_at (λ _. mutation_at) anywhere 0 count bytes
 
 abbrev pub families_at : ℕ → List ℕ → Reads (List Family)
 families_at count bytes = many_at family_at name_of [] count bytes
-
--- a count that passes a test, and so many items
-unfoldable pub counted_at : {A : Type 0} → Width → (ℕ → Bool) → (ℕ → List ℕ → Reads A) → List ℕ → Reads A
-counted_at w passes items bytes = do
-  count ← number_with w passes bytes
-  items count.0 count.1
 
 abbrev pub family_list_at : List ℕ → Reads (List Family)
 family_list_at bytes = counted_at w16 (λ n. nat_le n most_families) families_at bytes
@@ -226,17 +171,6 @@ unfoldable pub batch_at : ℕ → List ℕ → Result (List Numbered) ℕ
 batch_at first bytes = do
   batch ← counted_at w32 (λ n. nat_le 1 n) (entries_at first) bytes
   if length batch.1 == 0 then Ok batch.0 else Err (length batch.1)
-
--- what a function returned, seen by view, is what reading gives, unless memory ran out
-abbrev pub Gives : {X Y : Type 0} → (X → Y) → Result X Fault → Result Y ℕ → Type 0
-Gives view (Ok x) read = read ≡ Ok (view x)
-Gives view (Err (fault.Bad left)) read = read ≡ Err left
-Gives view (Err fault.OutOfMemory) read = Unit {0}
-
--- a fault as its place in all of the bytes
-abbrev pub placed : {A : Type 0} → List ℕ → Result A ℕ → Result A ℕ
-placed bytes (Ok x) = Ok x
-placed bytes (Err left) = Err (length bytes - left)
 
 -- the batch that the bytes spell, its entries numbered on from the first, or the place of the first bad field
 abbrev pub batch_in : ℕ → List ℕ → Result (List Numbered) ℕ

@@ -1,7 +1,7 @@
 -- The one spelling of a batch. Numbers are big-endian.
-use Rattle.std.specs.Prelude.{ℕ, Bool, true, false, List, [], ◌∷◌, ◌++◌, length, Option, Some, None}
-use Rattle.std.specs.List.{flat_map}
-use Rattle.std.specs.Int.{Width, w8, w16, w32, w64, to_be_bytes}
+use Rattle.std.specs.Prelude.{ℕ, Bool, true, false, List, [], ◌∷◌, ◌++◌, Option, Some, None}
+use Rattle.std.specs.Int.{w8, w16, w32, w64, to_be_bytes}
+use Rattle.bt_codec.specs.Spelling.{text, list}
 use Rattle.bt_types.specs.declared.mutation.Mutation.{Mutation}
 use Rattle.bt_types.specs.declared.mutation.Mutation.TheVariants.{SetCell, DeleteColumn, DeleteFamily, DeleteRow}
 use Rattle.bt_rules.specs.declared.family.Family.{Family}
@@ -11,14 +11,6 @@ use Rattle.bt_rules.specs.declared.rule.Rule.TheFolds.{fold-Rule}
 use Rattle.bt_entry.specs.declared.entry.Entry.{Entry}
 use Rattle.bt_entry.specs.declared.entry.Entry.TheVariants.{Row, Create, Delete, Alter, Stream, Floor}
 use Rattle.bt_entry.specs.declared.numbered.Numbered.{Numbered}
-
--- a text: its length, and its bytes
-abbrev pub text : Width → List ℕ → List ℕ
-text w bytes = to_be_bytes w (length bytes) ++ bytes
-
--- a list: its length, and its items
-abbrev pub list : {A : Type 0} → Width → (A → List ℕ) → List A → List ℕ
-list w spell xs = to_be_bytes w (length xs) ++ flat_map spell xs
 
 -- a tag, and what it says
 abbrev pub mutation : Mutation → List ℕ

@@ -1,12 +1,13 @@
 //! An entry, read from the left.
-ghost use Rattle.bt_entry.specs.Reading.{Gives, alter_at, create_at, delete_at, entry_at, row_at, stream_at};
+ghost use Rattle.bt_codec.specs.Reading.{Gives};
+ghost use Rattle.bt_entry.specs.Reading.{alter_at, create_at, delete_at, entry_at, row_at, stream_at};
 
 use crate::Entry;
 use crate::families::family_list_at;
-use crate::fault::Fault;
-use crate::fields::{key_at, retention_at, u8_at, u64_at};
+use crate::fields::{key_at, retention_at};
 use crate::mutations::mutation_list_at;
 use crate::names::table_name_at;
+use bt_codec::{Fault, u8_at, u64_at};
 use std::alloc::Global;
 
 #[tactic(auto, unfolding(crate::specs::Reading::entry_at))]

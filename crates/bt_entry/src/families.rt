@@ -2,18 +2,18 @@
 ghost use Rattle.std.specs.Prelude.{◌≡◌, nat_le};
 ghost use Rattle.std.specs.Int.{w16};
 ghost use Rattle.bt_entry.specs.Grammar.{most_families, last_name};
-ghost use Rattle.bt_entry.specs.Reading.{Gives, families_at, family_at, family_list_at, number_with};
+ghost use Rattle.bt_codec.specs.Reading.{Gives, number_with};
+ghost use Rattle.bt_entry.specs.Reading.{families_at, family_at, family_list_at};
 
-use crate::fault::Fault;
-use crate::fields::u16_at;
 use crate::names::next_family_name_at;
 use crate::rules::rule_or_none_at;
+use bt_codec::{Fault, u16_at};
 use bt_rules::{Families, Family};
 use std::alloc::Global;
 
 const MOST_FAMILIES: u16 = 100;
 
-#[tactic(auto, unfolding(crate::specs::Reading::counted_at))]
+#[tactic(auto, unfolding(bt_codec::specs::Reading::counted_at))]
 pub(crate) fn family_list_at(alloc: Global, bytes: &[u8]) -> Result<(Families, &[u8]), Fault>
     ensures { Gives (λ x. (x.0, x.1.now)) result (family_list_at bytes.now) }
 {
@@ -21,7 +21,7 @@ pub(crate) fn family_list_at(alloc: Global, bytes: &[u8]) -> Result<(Families, &
     families_at(alloc, count, rest)
 }
 
-#[tactic(auto, unfolding(crate::specs::Reading::number_with))]
+#[tactic(auto, unfolding(bt_codec::specs::Reading::number_with))]
 fn family_count_at(bytes: &[u8]) -> Result<(u16, &[u8]), Fault>
     ensures { Gives (λ x. (x.0, x.1.now)) result (number_with w16 (λ n. nat_le n most_families) bytes.now) }
 {

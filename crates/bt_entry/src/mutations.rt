@@ -1,15 +1,16 @@
 //! The mutations of a row, read from the left.
 ghost use Rattle.std.specs.Prelude.{nat_le};
 ghost use Rattle.std.specs.Int.{w32};
-ghost use Rattle.bt_entry.specs.Reading.{Gives, counted_at, delete_column_at, delete_family_at, mutation_at, mutations_at, set_cell_at};
+ghost use Rattle.bt_codec.specs.Reading.{Gives, counted_at};
+ghost use Rattle.bt_entry.specs.Reading.{delete_column_at, delete_family_at, mutation_at, mutations_at, set_cell_at};
 
-use crate::fault::Fault;
-use crate::fields::{count_at, micros_at, qualifier_at, time_at, u8_at, value_at};
+use crate::fields::{micros_at, qualifier_at, time_at, value_at};
 use crate::names::family_name_at;
+use bt_codec::{Fault, count_at, u8_at};
 use bt_types::{Mutation, MutationList};
 use std::alloc::Global;
 
-#[tactic(auto, unfolding(crate::specs::Reading::counted_at))]
+#[tactic(auto, unfolding(bt_codec::specs::Reading::counted_at))]
 pub(crate) fn mutation_list_at(alloc: Global, bytes: &[u8]) -> Result<(MutationList, &[u8]), Fault>
     ensures { Gives (λ x. (x.0, x.1.now)) result (counted_at w32 (λ n. nat_le 1 n) mutations_at bytes.now) }
 {

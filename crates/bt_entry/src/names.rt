@@ -3,11 +3,10 @@ ghost use Rattle.std.specs.Prelude.{◌≡◌, IfOk};
 ghost use Rattle.std.specs.Int.{w8, w16};
 ghost use Rattle.bt_types.specs.Grammar.{is_family_name, is_table_name, lawful};
 ghost use Rattle.bt_entry.specs.Grammar.{is_below, is_family_behind};
-ghost use Rattle.bt_entry.specs.Reading.{Gives, text_with};
+ghost use Rattle.bt_codec.specs.Reading.{Gives, text_with};
 
-use crate::fault::Fault;
-use crate::fields::{text8_at, text16_at};
 use bt_base::OutOfMemory;
+use bt_codec::{Fault, text8_at, text16_at};
 use bt_types::{FamilyName, TableName};
 use std::alloc::Global;
 use std::cmp::Ordering;
@@ -18,7 +17,7 @@ const LEAST_OF_TABLE: usize = 31;
 
 const MOST_OF_TABLE: usize = 278;
 
-#[tactic(auto, unfolding(crate::specs::Reading::text_with))]
+#[tactic(auto, unfolding(bt_codec::specs::Reading::text_with))]
 pub(crate) fn family_name_at(alloc: Global, bytes: &[u8]) -> Result<(FamilyName, &[u8]), Fault>
     ensures { Gives (λ x. (x.0, x.1.now)) result (text_with w8 1 64 is_family_name bytes.now) }
 {
@@ -32,7 +31,7 @@ pub(crate) fn family_name_at(alloc: Global, bytes: &[u8]) -> Result<(FamilyName,
 }
 
 // A name that comes behind the one before it.
-#[tactic(auto, unfolding(crate::specs::Reading::text_with))]
+#[tactic(auto, unfolding(bt_codec::specs::Reading::text_with))]
 pub(crate) fn next_family_name_at<'a>(
     alloc: Global,
     before: &[u8],
@@ -49,7 +48,7 @@ pub(crate) fn next_family_name_at<'a>(
     }
 }
 
-#[tactic(auto, unfolding(crate::specs::Reading::text_with))]
+#[tactic(auto, unfolding(bt_codec::specs::Reading::text_with))]
 pub(crate) fn table_name_at(alloc: Global, bytes: &[u8]) -> Result<(TableName, &[u8]), Fault>
     ensures { Gives (λ x. (x.0, x.1.now)) result (text_with w16 31 278 is_table_name bytes.now) }
 {

@@ -3,12 +3,13 @@ ghost use Rattle.std.specs.Prelude.{◌≡◌, ◌≤◌, List, IfOk, Ok};
 ghost use Rattle.bt_entry.specs.declared.numbered.Numbered.{Numbered};
 ghost use Rattle.bt_entry.specs.Grammar.{AreNumbered, IsSpellable};
 ghost use Rattle.bt_entry.specs.Spelling.{spelling};
-ghost use Rattle.bt_entry.specs.Reading.{Answers, Gives, batch_at, batch_in, entries_at, numbered_at};
+ghost use Rattle.bt_codec.specs.Reading.{Gives};
+ghost use Rattle.bt_entry.specs.Reading.{Answers, batch_at, batch_in, entries_at, numbered_at};
 
 use crate::entries::entry_at;
-use crate::fault::Fault;
-use crate::fields::{count_at, moment_at};
+use crate::fields::moment_at;
 use crate::{Batch, BatchRefusal, Numbered};
+use bt_codec::{Fault, count_at};
 use std::alloc::Global;
 
 /// The batch that the bytes spell, with entries numbered on from `first`.
@@ -36,7 +37,7 @@ pub fn read_batch(alloc: Global, bytes: &[u8], first: u64) -> Result<Batch, Batc
     }
 }
 
-#[tactic(auto, unfolding(crate::specs::Reading::batch_at, crate::specs::Reading::counted_at))]
+#[tactic(auto, unfolding(crate::specs::Reading::batch_at, bt_codec::specs::Reading::counted_at))]
 fn batch_at(alloc: Global, bytes: &[u8], first: u64) -> Result<Batch, Fault>
     requires { first ≤ 9223372036854775807 }
     ensures { Gives (λ b. b) result (batch_at first bytes.now) }

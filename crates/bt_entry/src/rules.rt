@@ -2,10 +2,10 @@
 ghost use Rattle.std.specs.Prelude.{◌≡◌, ◌+◌, ◌-◌, ◌≤◌, ◌&&◌, nat_le, map, sum, IfOk};
 ghost use Rattle.std.specs.Int.{w8, w64};
 ghost use Rattle.bt_rules.specs.Rules.{count_of};
-ghost use Rattle.bt_entry.specs.Reading.{Gives, left_behind, many_at, node_at, number_with, parts_at, rule_at, rule_or_none_at};
+ghost use Rattle.bt_codec.specs.Reading.{Gives, many_at, number_with};
+ghost use Rattle.bt_entry.specs.Reading.{left_behind, node_at, parts_at, rule_at, rule_or_none_at};
 
-use crate::fault::Fault;
-use crate::fields::{count_at, u8_at, u64_at};
+use bt_codec::{Fault, count_at, u8_at, u64_at};
 use bt_rules::{Rule, RuleList};
 use std::alloc::Global;
 
@@ -119,7 +119,7 @@ fn rules_at(
 }
 
 // How many rules a list has: at least one, and no more than nodes are left.
-#[tactic(auto, unfolding(crate::specs::Reading::number_with))]
+#[tactic(auto, unfolding(bt_codec::specs::Reading::number_with))]
 fn part_count_at(left: usize, bytes: &[u8]) -> Result<(u8, &[u8]), Fault>
     ensures read { Gives (λ x. (x.0, x.1.now)) result (number_with w8 (λ n. nat_le 1 n && nat_le n left) bytes.now) }
     ensures within { IfOk result (λ x. x.0 ≤ left) }
@@ -131,7 +131,7 @@ fn part_count_at(left: usize, bytes: &[u8]) -> Result<(u8, &[u8]), Fault>
     Ok((count, rest))
 }
 
-#[tactic(auto, unfolding(crate::specs::Reading::number_with))]
+#[tactic(auto, unfolding(bt_codec::specs::Reading::number_with))]
 fn age_at(bytes: &[u8]) -> Result<(u64, &[u8]), Fault>
     ensures { Gives (λ x. (x.0, x.1.now)) result (number_with w64 (λ n. nat_le 1000 n) bytes.now) }
 {

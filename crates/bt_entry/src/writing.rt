@@ -2,15 +2,16 @@
 ghost use Rattle.std.specs.Prelude.{◌≡◌, ◌++◌, IsTrue, OnOk, IfOk};
 ghost use Rattle.std.specs.Int.{w32};
 ghost use Rattle.bt_entry.specs.Grammar.{AreWritableFamilies, IsSpellable, IsSpellableEntry, IsSpellableMutation, IsSpellableMutations, IsSpellableNumbered, RulesFitIn, is_retention, IsWritable, IsWritableEntry, IsWritableMutation, IsWritableMutations, IsWritableNumbered};
-ghost use Rattle.bt_entry.specs.Spelling.{entry, list, mutation, numbered, row_tag, spelling};
+ghost use Rattle.bt_codec.specs.Spelling.{list};
+ghost use Rattle.bt_entry.specs.Spelling.{entry, mutation, numbered, row_tag, spelling};
 
 use crate::writing_families::put_families;
 use crate::writing_fields::{
-    put_family_name, put_key, put_micros, put_qualifier, put_table_name, put_u32, put_u64,
-    put_value,
+    put_family_name, put_key, put_micros, put_qualifier, put_table_name, put_value,
 };
 use crate::{Batch, Entry, Numbered};
 use bt_base::{Blob, OutOfMemory};
+use bt_codec::{put_u32, put_u64};
 use bt_rules::Families;
 use bt_types::{FamilyName, Micros, Mutation, MutationList, Qualifier, RowKey, TableName};
 use std::alloc::{AllocError, Global};

@@ -4,9 +4,11 @@ ghost use Rattle.std.specs.Int.{w8, w16};
 ghost use Rattle.bt_types.specs.Grammar.{is_family_name};
 ghost use Rattle.bt_rules.specs.Rules.{all_of, count_of, is_lawful_or_none};
 ghost use Rattle.bt_entry.specs.Grammar.{AreSpellableFamilies, AreWritableFamilies, RulesFit, rule_fits, rule_or_none_fits};
-ghost use Rattle.bt_entry.specs.Spelling.{family, list, rule, rule_or_none};
+ghost use Rattle.bt_codec.specs.Spelling.{list};
+ghost use Rattle.bt_entry.specs.Spelling.{family, rule, rule_or_none};
 
-use crate::writing_fields::{put_family_name, put_u16, put_u32, put_u64};
+use crate::writing_fields::put_family_name;
+use bt_codec::{put_u16, put_u32, put_u64};
 use bt_rules::{Families, Family, Rule};
 use std::alloc::AllocError;
 

@@ -1,12 +1,13 @@
 //! The fields of a batch, written at the end of the bytes.
-ghost use Rattle.std.specs.Prelude.{◌≡◌, ◌++◌, ◌<◌, ◌≤◌, ◌^◌, length, IsTrue, OnOk};
+ghost use Rattle.std.specs.Prelude.{◌≡◌, ◌++◌, ◌≤◌, length, IsTrue, OnOk};
 ghost use Rattle.bt_types.specs.Grammar.{is_family_name, is_qualifier, is_row_key, is_table_name};
 ghost use Rattle.bt_types.specs.Time.{is_micros};
 ghost use Rattle.std.specs.Int.{w8, w16, w32, w64, to_be_bytes};
 ghost use Rattle.bt_entry.specs.Grammar.{most_of_value};
-ghost use Rattle.bt_entry.specs.Spelling.{text};
+ghost use Rattle.bt_codec.specs.Spelling.{text};
 
 use bt_base::Blob;
+use bt_codec::{put_text8, put_text16, put_text32, put_u64};
 use bt_types::{FamilyName, Micros, Qualifier, RowKey, TableName};
 use std::alloc::AllocError;
 
@@ -49,41 +50,5 @@ pub(crate) fn put_value(out: &mut Vec<u8>, value: &Blob) -> Result<(), AllocErro
     requires { length value.now ≤ most_of_value }
     ensures { OnOk result (out.new.items ≡ out.old.items ++ text w32 value.now) }
 {
-    let bytes = value.bytes();
-    put_u32(out, bytes.len() as u32)?;
-    out.extend_from_slice(bytes)
-}
-
-fn put_text8(out: &mut Vec<u8>, bytes: &[u8]) -> Result<(), AllocError>
-    requires { length bytes.now < 2 ^ 8 }
-    ensures { OnOk result (out.new.items ≡ out.old.items ++ text w8 bytes.now) }
-{
-    out.push(bytes.len() as u8)?;
-    out.extend_from_slice(bytes)
-}
-
-fn put_text16(out: &mut Vec<u8>, bytes: &[u8]) -> Result<(), AllocError>
-    requires { length bytes.now < 2 ^ 16 }
-    ensures { OnOk result (out.new.items ≡ out.old.items ++ text w16 bytes.now) }
-{
-    put_u16(out, bytes.len() as u16)?;
-    out.extend_from_slice(bytes)
-}
-
-pub(crate) fn put_u16(out: &mut Vec<u8>, n: u16) -> Result<(), AllocError>
-    ensures { OnOk result (out.new.items ≡ out.old.items ++ to_be_bytes w16 n) }
-{
-    out.extend_from_slice(&n.to_be_bytes())
-}
-
-pub(crate) fn put_u32(out: &mut Vec<u8>, n: u32) -> Result<(), AllocError>
-    ensures { OnOk result (out.new.items ≡ out.old.items ++ to_be_bytes w32 n) }
-{
-    out.extend_from_slice(&n.to_be_bytes())
-}
-
-pub(crate) fn put_u64(out: &mut Vec<u8>, n: u64) -> Result<(), AllocError>
-    ensures { OnOk result (out.new.items ≡ out.old.items ++ to_be_bytes w64 n) }
-{
-    out.extend_from_slice(&n.to_be_bytes())
+    put_text32(out, value.bytes())
 }

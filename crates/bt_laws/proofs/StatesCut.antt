@@ -9,7 +9,8 @@ use Rattle.std.proofs.lemmas.Bool.{ltb-false}
 use Rattle.bt_entry.specs.declared.entry.Entry.{Entry}
 use Rattle.bt_entry.specs.declared.entry.Entry.TheVariants.{Row, Create, Delete, Alter, Stream, Floor}
 use Rattle.bt_entry.specs.declared.numbered.Numbered.{Numbered}
-use Rattle.bt_entry.specs.Grammar.{AllFrom, AreNumbered, IsSpellableNumbered}
+use Rattle.bt_codec.specs.Lists.{AllFrom}
+use Rattle.bt_entry.specs.Grammar.{AreNumbered, IsSpellableNumbered}
 use Rattle.bt_schema.specs.Schema.{Schema}
 use Rattle.bt_state.specs.State.{State, greatest_lost, is_past, lost_after, lost_of, sequence_in}
 use Rattle.bt_laws.specs.States.{AreNumberedTo, ValidCut, moment_of}

@@ -3,7 +3,8 @@ use Rattle.std.proofs.Common.{◌≡◌, ◌≤◌, ◌+◌, ◌-◌, ℕ, List,
 use Rattle.std.specs.List.{AllByRecursion}
 use Rattle.std.proofs.lemmas.List.{length-append}
 use Rattle.bt_entry.specs.declared.numbered.Numbered.{Numbered}
-use Rattle.bt_entry.specs.Grammar.{AllFrom, AreNumbered}
+use Rattle.bt_codec.specs.Lists.{AllFrom}
+use Rattle.bt_entry.specs.Grammar.{AreNumbered}
 use Rattle.bt_laws.specs.States.{AreNumberedTo, NeverFall, moment_of}
 
 pub weaker : {X : Type 0} (P Q : X → Type 0) → ((x : X) → P x → Q x) → (xs : List X) → AllByRecursion P xs → AllByRecursion Q xs

@@ -3,9 +3,10 @@ use Rattle.std.proofs.Common.{◌≡◌, ◌<◌, ◌≤◌, ◌+◌, ◌==◌, 
 use Rattle.std.specs.List.{AllByRecursion}
 use Rattle.bt_entry.specs.declared.numbered.Numbered.{Numbered}
 use Rattle.bt_entry.specs.Grammar.{IsSpellableNumbered}
-use Rattle.bt_entry.specs.Reading.{batch_at, batch_in, placed}
+use Rattle.bt_codec.specs.Reading.{placed}
+use Rattle.bt_entry.specs.Reading.{batch_at, batch_in}
 use Rattle.bt_entry.proofs.Batches.{batch_takes}
-use Rattle.bt_entry.proofs.Codecs.{IsBytes}
+use Rattle.bt_codec.proofs.Codecs.{IsBytes}
 use Rattle.bt_log.specs.Segment as log
 use Rattle.bt_log.proofs.Bodies.{body_takes}
 use Rattle.bt_log.proofs.Sizes.{entries_few}

@@ -10,7 +10,8 @@ use Rattle.bt_types.specs.Grammar.{is_table_name}
 use Rattle.bt_rules.specs.declared.family.Family.{Family}
 use Rattle.bt_entry.specs.declared.numbered.Numbered.{Numbered}
 use Rattle.bt_entry.specs.declared.table_info.TableInfo.{TableInfo}
-use Rattle.bt_entry.specs.Grammar.{AllFrom, AreNumbered, AreSpellableFamilies, IsSpellableNumbered, is_retention, last_moment, most_of_value}
+use Rattle.bt_codec.specs.Lists.{AllFrom}
+use Rattle.bt_entry.specs.Grammar.{AreNumbered, AreSpellableFamilies, IsSpellableNumbered, is_retention, last_moment, most_of_value}
 use Rattle.bt_schema.specs.Schema.{Schema, is_family_of, most_tables, table_at}
 use Rattle.bt_contents.specs.Contents.{AreFilled, Contents, HaveCells}
 use Rattle.bt_all_contents.specs.AllContents.{AreTables}

@@ -7,7 +7,8 @@ use Rattle.std.proofs.lemmas.Nat.{from_be_bytes-to_be_bytes_4}
 use Rattle.bt_entry.specs.declared.numbered.Numbered.{Numbered}
 use Rattle.bt_entry.specs.Grammar.{IsSpellable, AreNumbered}
 use Rattle.bt_entry.specs.Spelling.{spelling}
-use Rattle.bt_entry.specs.Reading.{batch_in, placed}
+use Rattle.bt_codec.specs.Reading.{placed}
+use Rattle.bt_entry.specs.Reading.{batch_in}
 use Rattle.bt_entry.proofs.Batches.{batch_again}
 use Rattle.bt_log.specs.Segment.{body_at, Record, Records, spelled, opened_at, record_at, behind, follow, records_at}
 use Rattle.bt_log.proofs.Bodies.{body_again, body_takes}

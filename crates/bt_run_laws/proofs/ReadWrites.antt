@@ -16,7 +16,7 @@ use Rattle.bt_types.specs.declared.cell.Cell.{Cell}
 use Rattle.bt_cond.specs.Conditions.{is_met}
 use Rattle.bt_contents.specs.Contents.{Contents, row_at}
 use Rattle.bt_contents.specs.Ranges.{row_with}
-use Rattle.bt_entry.proofs.Codecs.{wide64}
+use Rattle.bt_codec.proofs.Codecs.{wide64}
 use Rattle.bt_entry.specs.Grammar.{IsSpellableMutation, last_moment, most_of_value}
 use Rattle.bt_entry.specs.declared.table_info.TableInfo.{TableInfo}
 use Rattle.bt_filter.specs.Building.{filter_of}

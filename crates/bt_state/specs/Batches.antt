@@ -4,7 +4,7 @@ use Rattle.std.specs.List.{filter_map}
 use Rattle.bt_entry.specs.declared.entry.Entry.{Entry}
 use Rattle.bt_entry.specs.declared.entry.Entry.TheVariants.{Row, Create, Delete, Alter, Stream, Floor}
 use Rattle.bt_entry.specs.declared.numbered.Numbered.{Numbered}
-use Rattle.bt_entry.specs.Grammar.{AllFrom}
+use Rattle.bt_codec.specs.Lists.{AllFrom}
 use Rattle.bt_schema.specs.Schema.{Schema, IsNew, change_refusal, schema_after}
 use Rattle.bt_all_contents.specs.declared.row_change.RowChange.{RowChange}
 use Rattle.bt_all_contents.specs.AllContents.{AllContents, without_rows}

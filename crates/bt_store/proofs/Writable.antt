@@ -9,7 +9,8 @@ use Rattle.bt_rules.specs.declared.family.Family.{Family}
 use Rattle.bt_entry.specs.declared.entry.Entry.{Entry}
 use Rattle.bt_entry.specs.declared.entry.Entry.TheVariants.{Row, Create, Delete, Alter, Stream, Floor}
 use Rattle.bt_entry.specs.declared.numbered.Numbered.{Numbered}
-use Rattle.bt_entry.specs.Grammar.{AllFrom, name_of, is_below, AreSpellableFamilies, AreWritableFamilies, IsFamilyBehind, IsNext, IsSpellableEntry, IsSpellableMutation, IsSpellableNumbered, IsWritableEntry, IsWritableMutation, IsWritableNumbered}
+use Rattle.bt_codec.specs.Lists.{AllFrom}
+use Rattle.bt_entry.specs.Grammar.{name_of, is_below, AreSpellableFamilies, AreWritableFamilies, IsFamilyBehind, IsNext, IsSpellableEntry, IsSpellableMutation, IsSpellableNumbered, IsWritableEntry, IsWritableMutation, IsWritableNumbered}
 
 mutations : (ms : List Mutation) → AllByRecursion IsSpellableMutation ms → AllByRecursion IsWritableMutation ms
 mutations [] all = tt

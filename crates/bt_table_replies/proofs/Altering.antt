@@ -14,7 +14,8 @@ use Rattle.std.proofs.lemmas.Slice.Eq.{bytes_eq-Decides}
 use Rattle.bt_types.specs.Grammar.{is_family_name}
 use Rattle.bt_rules.specs.declared.family.Family.{Family}
 use Rattle.bt_rules.specs.Rules.{is_lawful_or_none}
-use Rattle.bt_entry.specs.Grammar.{AllFrom, AreSpellableFamilies, IsFamilyBehind, is_below, most_families, name_of}
+use Rattle.bt_codec.specs.Lists.{AllFrom}
+use Rattle.bt_entry.specs.Grammar.{AreSpellableFamilies, IsFamilyBehind, is_below, most_families, name_of}
 use Rattle.bt_messages.specs.declared.refusal.Refusal.{Refusal}
 use Rattle.bt_messages.specs.declared.refusal.Refusal.TheVariants as refusal
 use Rattle.bt_requests.specs.declared.families.FamilyChange.{FamilyChange}

@@ -10,7 +10,8 @@ use Rattle.std.specs.Cmp.Lexicographic.{slice_cmp}
 use Rattle.std.proofs.lemmas.Bool.{and_from, ltb-false}
 use Rattle.std.proofs.lemmas.List.{length-map}
 use Rattle.bt_types.specs.Grammar.{is_family_name, is_table_name}
-use Rattle.bt_entry.specs.Grammar.{AllFrom, IsFamilyBehind, is_below, is_lawful_retention, is_retention, last_moment, most_families, name_of}
+use Rattle.bt_codec.specs.Lists.{AllFrom}
+use Rattle.bt_entry.specs.Grammar.{IsFamilyBehind, is_below, is_lawful_retention, is_retention, last_moment, most_families, name_of}
 use Rattle.bt_entry.specs.declared.entry.Entry.TheVariants.{Create}
 use Rattle.bt_messages.specs.declared.refusal.Refusal.{Refusal}
 use Rattle.bt_messages.specs.declared.refusal.Refusal.TheVariants.{BadFamilyName, BadGcRule}

@@ -3,7 +3,7 @@ use Rattle.std.proofs.lemmas.Result.{err_from_is_err_and}
 use Rattle.std.proofs.lemmas.List.Sums.{fold-append}
 use Rattle.bt_entry.specs.Grammar.{last_name, name_of}
 use Rattle.bt_entry.specs.Reading.{family_at, families_at}
-use Rattle.bt_entry.proofs.Many.{goes_on, ends, is_done, Fails}
+use Rattle.bt_codec.proofs.Many.{goes_on, ends, is_done, Fails}
 use Rattle.bt_entry.proofs.families.families_at.Goals as goal
 
 pub returns-in_err-family : goal.returns-in_err-family

@@ -1,7 +1,8 @@
 use Rattle.std.proofs.Common.{◌≡◌, ◌-◌}
 use Rattle.bt_entry.specs.Grammar.{last_name, name_of}
-use Rattle.bt_entry.specs.Reading.{many_at, family_at, families_at}
-use Rattle.bt_entry.proofs.Many.{with_front}
+use Rattle.bt_codec.specs.Reading.{many_at}
+use Rattle.bt_entry.specs.Reading.{family_at, families_at}
+use Rattle.bt_codec.proofs.Many.{with_front}
 use Rattle.bt_entry.proofs.families.families_at.Given as goal
 
 abbrev pub invariant-loop : goal.invariant-loop

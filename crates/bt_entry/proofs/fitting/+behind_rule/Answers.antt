@@ -1,4 +1,4 @@
-use Rattle.std.proofs.Common.{◌≤◌, length, map, get_or, arith}
+use Rattle.std.proofs.Common.{◌≤◌, map, get_or, arith}
 use Rattle.std.specs.List.{sum}
 use Rattle.bt_rules.specs.Rules.{count_of}
 use Rattle.bt_entry.proofs.RuleTrees.{part_within, intersection_branch, union_branch}

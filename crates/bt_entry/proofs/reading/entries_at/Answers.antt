@@ -2,7 +2,7 @@ use Rattle.std.proofs.Common.{◌≡◌, ◌+◌, Ok, arith}
 use Rattle.std.proofs.lemmas.Result.{err_from_is_err_and}
 use Rattle.bt_entry.specs.Grammar.{next_sequence}
 use Rattle.bt_entry.specs.Reading.{numbered_at, entries_at}
-use Rattle.bt_entry.proofs.Many.{goes_on, ends, is_done, Fails}
+use Rattle.bt_codec.proofs.Many.{goes_on, ends, is_done, Fails}
 use Rattle.bt_entry.proofs.reading.entries_at.Goals as goal
 
 pub returns-in_err-numbered : goal.returns-in_err-numbered

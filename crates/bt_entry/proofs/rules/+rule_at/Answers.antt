@@ -1,8 +1,9 @@
 use Rattle.std.proofs.Common.{ℕ, [], ◌∷◌, ap, sym, ◌∙◌, arith, length-append}
 use Rattle.std.proofs.lemmas.Result.{err_from_is_err_and}
 use Rattle.std.proofs.lemmas.List.Sums.{fold-append}
-use Rattle.bt_entry.specs.Reading.{many_at, rule_at, left_behind}
-use Rattle.bt_entry.proofs.Many.{goes_on, ends, is_done}
+use Rattle.bt_codec.specs.Reading.{many_at}
+use Rattle.bt_entry.specs.Reading.{rule_at, left_behind}
+use Rattle.bt_codec.proofs.Many.{goes_on, ends, is_done}
 use Rattle.bt_entry.proofs.RuleTrees.{left_behind_all, no_level, a_level}
 use Rattle.bt_entry.proofs.rules.+rule_at.Goals as goal
 

@@ -1,7 +1,8 @@
 use Rattle.std.proofs.Common.{◌≡◌, ◌+◌, ◌-◌, ◌*◌, length}
 use Rattle.std.specs.List.{fold}
-use Rattle.bt_entry.specs.Reading.{many_at, rule_at, left_behind}
-use Rattle.bt_entry.proofs.Many.{with_front}
+use Rattle.bt_codec.specs.Reading.{many_at}
+use Rattle.bt_entry.specs.Reading.{rule_at, left_behind}
+use Rattle.bt_codec.proofs.Many.{with_front}
 use Rattle.bt_entry.proofs.rules.+rule_at.Given as goal
 
 abbrev pub decreases-rule_at : goal.decreases-rule_at

@@ -8,7 +8,8 @@ use Rattle.bt_rules.specs.declared.family.Family.{Family}
 use Rattle.bt_entry.specs.declared.entry.Entry.{Entry}
 use Rattle.bt_entry.specs.declared.entry.Entry.TheVariants.{Row, Create, Delete, Alter, Stream, Floor}
 use Rattle.bt_entry.specs.declared.numbered.Numbered.{Numbered}
-use Rattle.bt_entry.specs.Grammar.{AllFrom, name_of, is_below, IsNext, IsFamilyBehind, IsSpellableEntry, IsSpellableMutation, IsSpellableNumbered, IsWritableEntry, IsWritableMutation, IsWritableNumbered}
+use Rattle.bt_codec.specs.Lists.{AllFrom}
+use Rattle.bt_entry.specs.Grammar.{name_of, is_below, IsNext, IsFamilyBehind, IsSpellableEntry, IsSpellableMutation, IsSpellableNumbered, IsWritableEntry, IsWritableMutation, IsWritableNumbered}
 use Rattle.bt_entry.proofs.tests.written_again.Goals as goal
 
 mutation : (m : Mutation) → IsSpellableMutation m → IsWritableMutation m

@@ -1,5 +1,5 @@
 use Rattle.bt_entry.specs.Grammar.{IsWritableNumbered}
-use Rattle.bt_entry.proofs.Parts.{at_item}
+use Rattle.bt_codec.proofs.Items.{at_item}
 use Rattle.bt_entry.proofs.writing.put_batch.Goals as goal
 
 pub put_numbered-requires : goal.put_numbered-requires

@@ -1,5 +1,5 @@
 use Rattle.bt_entry.specs.Grammar.{IsWritableMutation}
-use Rattle.bt_entry.proofs.Parts.{at_item}
+use Rattle.bt_codec.proofs.Items.{at_item}
 use Rattle.bt_entry.proofs.writing.put_mutations.Goals as goal
 
 pub put_mutation-requires : goal.put_mutation-requires

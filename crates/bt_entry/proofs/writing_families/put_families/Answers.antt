@@ -1,5 +1,6 @@
 use Rattle.std.proofs.Common.{[], arith}
-use Rattle.bt_entry.proofs.Parts.{HasLawfulName, HasLawfulRule, ascend_from, at_item, each_of_all, rules_of}
+use Rattle.bt_codec.proofs.Items.{at_item, each_of_all}
+use Rattle.bt_entry.proofs.Parts.{HasLawfulName, HasLawfulRule, ascend_from, rules_of}
 use Rattle.bt_entry.proofs.writing_families.put_families.Goals as goal
 
 pub put_family-requires : goal.put_family-requires

@@ -5,16 +5,16 @@ use Rattle.std.proofs.lemmas.Bool.{and_parts, and_from, cases_lt, eqb-true, ltb-
 use Rattle.std.proofs.lemmas.List.{take_at, drop_at, take-append-drop, length-append, length-take, get_or-drop, get_or-take, get_or_past}
 use Rattle.std.proofs.lemmas.Nat.{be_bytes_2, be_bytes_4, be_bytes_8, from_be_bytes-to_be_bytes_2, from_be_bytes-to_be_bytes_4, from_be_bytes-to_be_bytes_8}
 use Rattle.std.specs.Prelude.{nat_le, ◌%◌}
-use Rattle.bt_entry.specs.Spelling.{text}
-use Rattle.bt_entry.specs.Reading.{◌>>=◌, Reads, number_at, number_with, text_at, text_with}
+use Rattle.bt_codec.specs.Spelling.{text}
+use Rattle.bt_codec.specs.Reading.{◌>>=◌, Reads, number_at, number_with, text_at, text_with}
 
 abbrev pub IsBytes : List ℕ → Type 0
 IsBytes bytes = (i : ℕ) → get_or bytes i 0 < 256
 
-IsBytes-drop : (n : ℕ) (bytes : List ℕ) → IsBytes bytes → IsBytes (drop n bytes)
+pub IsBytes-drop : (n : ℕ) (bytes : List ℕ) → IsBytes bytes → IsBytes (drop n bytes)
 IsBytes-drop n bytes h i = rw get_or-drop (h (n + i))
 
-IsBytes-take : (n : ℕ) (bytes : List ℕ) → IsBytes bytes → IsBytes (take n bytes)
+pub IsBytes-take : (n : ℕ) (bytes : List ℕ) → IsBytes bytes → IsBytes (take n bytes)
 IsBytes-take n bytes h i =
     elim (cases_lt i n) [
       | inl lt ↦ rw (get_or-take n bytes i 0 lt) (h i)
@@ -36,17 +36,17 @@ pub chosen : {A : Type 0} (b : Bool) (r s : Result A ℕ) (y : A) → cond b r s
 chosen true r s y e = inl (refl, e)
 chosen false r s y e = inr (refl, e)
 
-abbrev done : {A : Type 0} → A → Result A ℕ
+abbrev pub done : {A : Type 0} → A → Result A ℕ
 done x = Ok x
 
-abbrev fault_of : (A : Type 0) → ℕ → Result A ℕ
+abbrev pub fault_of : (A : Type 0) → ℕ → Result A ℕ
 fault_of A left = Err left
 
 pub ok_is : {A : Type 0} (x y : A) → done x ≡ done y → x ≡ y
 ok_is x y e = cc
 
 -- a test that passed
-passed : {A : Type 0} (b : Bool) (d : ℕ) (x y : A) → cond b (done x) (Err d) ≡ Ok y → (b ≡ true) × (x ≡ y)
+pub passed : {A : Type 0} (b : Bool) (d : ℕ) (x y : A) → cond b (done x) (Err d) ≡ Ok y → (b ≡ true) × (x ≡ y)
 passed true d x y e = (refl, ok_is x y e)
 passed false d x y e = absurd cc
 
@@ -131,6 +131,12 @@ number_codec w limit wide = record {
       rw (long, take_at (to_be_bytes w n) rest (byte_len w) len, drop_at (to_be_bytes w n) rest (byte_len w) len, wide.again n lt) refl;
 }
 
+pub u8_codec : IsCodec (number_at w8) (to_be_bytes w8) (λ n. n < 2 ^ 8)
+u8_codec = number_codec w8 (2 ^ 8) wide8
+
+pub u64_codec : IsCodec (number_at w64) (to_be_bytes w64) (λ n. n < 2 ^ 64)
+u64_codec = number_codec w64 (2 ^ 64) wide64
+
 -- a number that passes a test
 pub tested_codec : (w : Width) (limit : ℕ) → IsWide w limit → (passes : ℕ → Bool) → IsCodec (number_with w passes) (to_be_bytes w) (λ n. (n < limit) × (passes n ≡ true))
 unfolding number_with
@@ -145,7 +151,7 @@ tested_codec w limit wide passes = record {
 
 -- ---- texts
 
-abbrev lies : ℕ → ℕ → ℕ → Bool
+abbrev pub lies : ℕ → ℕ → ℕ → Bool
 lies least most n = nat_le least n && nat_le n most
 
 pub text_takes : (w : Width) (limit : ℕ) → IsWide w limit → (least most : ℕ) (bytes t rest : List ℕ) → IsBytes bytes → text_at w least most bytes ≡ Ok (t, rest) → Takes bytes (text w t) rest × ((least ≤ length t) × (length t ≤ most))
@@ -192,9 +198,6 @@ name_codec w limit wide least most small passes len = record {
 }
 
 -- ---- tags
-
-pub u8_codec : IsCodec (number_at w8) (to_be_bytes w8) (λ n. n < 2 ^ 8)
-u8_codec = number_codec w8 (2 ^ 8) wide8
 
 -- a tag that was read is the first byte
 pub tagged : (bytes after : List ℕ) (b n : ℕ) → Takes bytes (to_be_bytes w8 b) after → eqb b n ≡ true → n < 256 → bytes ≡ n ∷ after

@@ -4,12 +4,12 @@ use Rattle.std.specs.List.{flat_map}
 use Rattle.std.specs.Int.{Width, to_be_bytes}
 use Rattle.std.proofs.lemmas.List.{append-nil}
 use Rattle.std.proofs.lemmas.List.Concat.{flat_map-cons}
-use Rattle.bt_entry.specs.declared.fault.Fault.{Fault}
-use Rattle.bt_entry.specs.declared.fault.Fault.TheVariants as fault
-use Rattle.bt_entry.specs.Grammar.{AllFrom}
-use Rattle.bt_entry.specs.Reading.{◌>>=◌, Reads, number_with, many_at, counted_at}
-use Rattle.bt_entry.specs.Spelling.{list}
-use Rattle.bt_entry.proofs.Codecs.{IsWide, tested_codec, IsBytes, IsCodec, ReadAgain, Takes, Takes-then, Taking, bind_ok, ok_is}
+use Rattle.bt_codec.specs.declared.fault.Fault.{Fault}
+use Rattle.bt_codec.specs.declared.fault.Fault.TheVariants as fault
+use Rattle.bt_codec.specs.Lists.{AllFrom}
+use Rattle.bt_codec.specs.Reading.{◌>>=◌, Reads, number_with, many_at, counted_at}
+use Rattle.bt_codec.specs.Spelling.{list}
+use Rattle.bt_codec.proofs.Codecs.{IsWide, tested_codec, IsBytes, IsCodec, ReadAgain, Takes, Takes-then, Taking, bind_ok, ok_is}
 
 -- what was read before, and what is still read
 abbrev pub with_front : {A : Type 0} → List A → Reads (List A) → Reads (List A)

@@ -1,0 +1,4 @@
+pub mod Codecs
+pub mod Items
+pub mod Many
+pub mod Places
