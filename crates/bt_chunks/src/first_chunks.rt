@@ -8,7 +8,6 @@ use bt_base::{Blob, OutOfMemory, Plain};
 use bt_types::{Cell, FamilyName, Label, Micros, Qualifier, cell_order};
 use std::alloc::Global;
 use std::cmp::Ordering;
-use std::str;
 
 // The cell that the chunk begins behind these of its row. What the chunk does not name is as in
 // the last one.
@@ -65,19 +64,8 @@ fn family_of(
     ensures { IfOk result (λ name. name ≡ named is_family_name given.now (option_map (λ c. c.family) (last_cell before.now))) }
 {
     match given {
-        Some(bytes) => family_name(alloc, bytes.bytes()),
+        Some(bytes) => FamilyName::from_bytes(alloc, bytes.bytes()),
         None => last_family(alloc, before),
-    }
-}
-
-// A name is ASCII, so what is no UTF-8 is none.
-#[tactic(auto, using(crate::proofs::Names::is_no_family))]
-fn family_name(alloc: Global, bytes: &[u8]) -> Result<Option<FamilyName>, OutOfMemory>
-    ensures { IfOk result (λ name. name ≡ lawful is_family_name bytes.now) }
-{
-    match str::from_utf8(bytes) {
-        Ok(text) => FamilyName::new(alloc, text),
-        Err(_) => Ok(None),
     }
 }
 

@@ -14,7 +14,7 @@ use Rattle.bt_codec.specs.Spelling.{text, list}
 use Rattle.bt_entry.specs.Spelling.{mutation, family, rule_or_none}
 use Rattle.bt_codec.specs.Reading.{◌>>=◌, Reads, number_at, number_with, text_at, text_with, anywhere, counted_at}
 use Rattle.bt_entry.specs.Reading.{time_at, set_cell_at, delete_column_at, delete_family_at, mutation_at, rule_or_none_at, family_at, mutations_at, family_list_at}
-use Rattle.bt_entry.proofs.LawfulNames.{family_len, table_len, key_len, qualifier_len}
+use Rattle.bt_types.proofs.LawfulNames.{family_len, table_len, key_len, qualifier_len}
 use Rattle.bt_codec.proofs.Codecs.{IsBytes, bind_ok, ok_is, Takes, Takes-then, IsCodec, wide8, wide16, wide32, wide64, tested_codec, text_codec, name_codec, u8_codec, by_tag, no_value, behind}
 use Rattle.bt_codec.proofs.Many.{counted_codec}
 use Rattle.bt_entry.proofs.RuleLaws.{rule_or_none_codec}

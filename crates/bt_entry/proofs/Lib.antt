@@ -1,4 +1,3 @@
-pub mod LawfulNames
 pub mod Parts
 pub mod RuleTrees
 pub mod RuleLaws

@@ -10,7 +10,6 @@ use bt_codec::{Fault, text8_at, text16_at};
 use bt_types::{FamilyName, TableName};
 use std::alloc::Global;
 use std::cmp::Ordering;
-use std::str;
 
 // projects/P/instances/I/tables/T with one character for each of P, I and T, and with the most.
 const LEAST_OF_TABLE: usize = 31;
@@ -22,7 +21,7 @@ pub(crate) fn family_name_at(alloc: Global, bytes: &[u8]) -> Result<(FamilyName,
     ensures { Gives (λ x. (x.0, x.1.now)) result (text_with w8 1 64 is_family_name bytes.now) }
 {
     let (text, rest) = text8_at(1, 64, bytes)?;
-    match family_name(alloc, text)? {
+    match FamilyName::from_bytes(alloc, text)? {
         Some(name) => Ok((name, rest)),
         None => Err(Fault::Bad {
             left: text.len() + rest.len(),
@@ -53,7 +52,7 @@ pub(crate) fn table_name_at(alloc: Global, bytes: &[u8]) -> Result<(TableName, &
     ensures { Gives (λ x. (x.0, x.1.now)) result (text_with w16 31 278 is_table_name bytes.now) }
 {
     let (text, rest) = text16_at(LEAST_OF_TABLE, MOST_OF_TABLE, bytes)?;
-    match table_name(alloc, text)? {
+    match TableName::from_bytes(alloc, text)? {
         Some(name) => Ok((name, rest)),
         None => Err(Fault::Bad {
             left: text.len() + rest.len(),
@@ -71,30 +70,11 @@ fn next_family_name(
     if !is_below(before, bytes) {
         return Ok(None);
     }
-    family_name(alloc, bytes)
+    FamilyName::from_bytes(alloc, bytes)
 }
 
 fn is_below(a: &[u8], b: &[u8]) -> bool
     ensures { result ≡ is_below a.now b.now }
 {
     matches!(a.cmp(b), Ordering::Less)
-}
-
-// A name is ASCII, so what is no UTF-8 is none.
-fn family_name(alloc: Global, bytes: &[u8]) -> Result<Option<FamilyName>, OutOfMemory>
-    ensures { IfOk result (λ name. name ≡ lawful is_family_name bytes.now) }
-{
-    match str::from_utf8(bytes) {
-        Ok(text) => FamilyName::new(alloc, text),
-        Err(_) => Ok(None),
-    }
-}
-
-fn table_name(alloc: Global, bytes: &[u8]) -> Result<Option<TableName>, OutOfMemory>
-    ensures { IfOk result (λ name. name ≡ lawful is_table_name bytes.now) }
-{
-    match str::from_utf8(bytes) {
-        Ok(text) => TableName::new(alloc, text),
-        Err(_) => Ok(None),
-    }
 }

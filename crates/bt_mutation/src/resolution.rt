@@ -9,15 +9,14 @@ ghost use Rattle.bt_mutation.specs.Resolution.{resolved, resolved_mutation, time
 
 use crate::asked::SERVER_TIME;
 use crate::{AskedMutation, AskedMutationList};
-use bt_base::OutOfMemory;
+use bt_base::{Blob, OutOfMemory};
 use bt_types::{FamilyName, Micros, Mutation, MutationList, Qualifier};
 use std::alloc::Global;
-use std::str;
 
 /// The mutations as they are applied and logged. A `timestamp_micros` of -1 asks for the server's
 /// time (`google.bigtable.v2.Mutation.SetCell`): it becomes `moment`, in microseconds since 1970,
 /// cut down to a multiple of 1,000. Another timestamp stays. The list must be one that
-/// `check_list` accepts. Values are moved, not copied. It fails only where an allocation is refused.
+/// `check_list` accepts. Values and qualifiers are moved, not copied. It fails only where an allocation is refused.
 pub fn resolve(
     alloc: Global,
     list: AskedMutationList,
@@ -55,7 +54,7 @@ fn resolve_mutation(
             value,
         } => Ok(Mutation::SetCell {
             family: lawful_family(alloc, family.bytes())?,
-            qualifier: lawful_qualifier(alloc, qualifier.bytes())?,
+            qualifier: lawful_qualifier(qualifier),
             at: time_used(at, moment),
             value,
         }),
@@ -66,7 +65,7 @@ fn resolve_mutation(
             end,
         } => Ok(Mutation::DeleteColumn {
             family: lawful_family(alloc, family.bytes())?,
-            qualifier: lawful_qualifier(alloc, qualifier.bytes())?,
+            qualifier: lawful_qualifier(qualifier),
             start: start as u64,
             end: end as u64,
         }),
@@ -78,26 +77,22 @@ fn resolve_mutation(
     }
 }
 
-// A name is ASCII, so it is UTF-8.
 fn lawful_family(alloc: Global, bytes: &[u8]) -> Result<FamilyName, OutOfMemory>
     requires { IsTrue (is_family_name bytes.now) }
     ensures { IfOk result (λ name. name ≡ bytes.now) }
 {
-    let Ok(text) = str::from_utf8(bytes) else {
-        unreachable!()
-    };
-    match FamilyName::new(alloc, text)? {
+    match FamilyName::from_bytes(alloc, bytes)? {
         Some(name) => Ok(name),
         None => unreachable!(),
     }
 }
 
-fn lawful_qualifier(alloc: Global, bytes: &[u8]) -> Result<Qualifier, OutOfMemory>
-    requires { IsTrue (is_qualifier bytes.now) }
-    ensures { IfOk result (λ name. name ≡ bytes.now) }
+fn lawful_qualifier(bytes: Blob) -> Qualifier
+    requires { IsTrue (is_qualifier bytes) }
+    ensures { result ≡ bytes }
 {
-    match Qualifier::new(alloc, bytes)? {
-        Some(name) => Ok(name),
+    match Qualifier::from_blob(bytes) {
+        Some(name) => name,
         None => unreachable!(),
     }
 }

@@ -23,20 +23,21 @@ use std::alloc::Global;
 /// `google.bigtable.v2.MutateRowsRequest.entries`).
 pub const MOST_MUTATIONS: u32 = 100_000;
 
-/// Mutations of the row at a key of the table, in order, all or none. Values are moved, not copied.
+/// Mutations of the row at a key of the table, in order, all or none. What it is given is moved,
+/// but for the names of families.
 pub fn row_entry(
     alloc: Global,
     table: &TableInfo,
-    key: &Blob,
+    key: Blob,
     mutations: AskedMutationList,
     moment: u64,
 ) -> Result<Entry, NoPlan>
     requires { moment ≤ last_moment }
-    ensures refusal { Refuses (mutate_refusal key.now mutations table.now) result }
-    ensures entry { IfOk result (λ e. e ≡ Row table.now.incarnation key.now false (resolved moment mutations)) }
+    ensures refusal { Refuses (mutate_refusal key mutations table.now) result }
+    ensures entry { IfOk result (λ e. e ≡ Row table.now.incarnation key false (resolved moment mutations)) }
     ensures spellable { IfOk result IsSpellableEntry }
 {
-    let Some(key) = RowKey::new(alloc, key.bytes())? else {
+    let Some(key) = RowKey::from_blob(key) else {
         return Err(NoPlan::Refused(Refusal::BadRowKey));
     };
     check_mutations(mutations.items(), &table.families)?;

@@ -151,7 +151,7 @@ fn row_plan(
             name,
             key,
             mutations,
-        } => mutate_row(alloc, present, &name, &key, mutations, moment),
+        } => mutate_row(alloc, present, &name, key, mutations, moment),
         Request::MutateRows { name, entries } => {
             mutate_rows(alloc, present, &name, entries, moment)
         }

@@ -10,12 +10,11 @@ ghost use Rattle.bt_rmw.specs.Rules.{IsLawfulRule, RefusesRules, first_refusal, 
 use crate::asked::{AskedRule, AskedRuleList};
 use crate::refusal::RulesRefusal;
 use crate::rule::{ModifyRule, ModifyRuleList};
-use bt_base::OutOfMemory;
+use bt_base::{Blob, OutOfMemory};
 use bt_mutation::has_family;
 use bt_rules::{Families, Family};
 use bt_types::{FamilyName, Qualifier};
 use std::alloc::Global;
-use std::str;
 
 const MOST_OF_QUALIFIER: usize = 16_384;
 
@@ -98,31 +97,27 @@ fn lawful_rule(alloc: Global, rule: AskedRule) -> Result<ModifyRule, OutOfMemory
     let Some(action) = action else { unreachable!() };
     Ok(ModifyRule {
         family: lawful_family(alloc, family.bytes())?,
-        qualifier: lawful_qualifier(alloc, qualifier.bytes())?,
+        qualifier: lawful_qualifier(qualifier),
         action,
     })
 }
 
-// A name is ASCII, so it is UTF-8.
 fn lawful_family(alloc: Global, bytes: &[u8]) -> Result<FamilyName, OutOfMemory>
     requires { IsTrue (is_family_name bytes.now) }
     ensures { IfOk result (λ name. name ≡ bytes.now) }
 {
-    let Ok(text) = str::from_utf8(bytes) else {
-        unreachable!()
-    };
-    match FamilyName::new(alloc, text)? {
+    match FamilyName::from_bytes(alloc, bytes)? {
         Some(name) => Ok(name),
         None => unreachable!(),
     }
 }
 
-fn lawful_qualifier(alloc: Global, bytes: &[u8]) -> Result<Qualifier, OutOfMemory>
-    requires { IsTrue (is_qualifier bytes.now) }
-    ensures { IfOk result (λ name. name ≡ bytes.now) }
+fn lawful_qualifier(bytes: Blob) -> Qualifier
+    requires { IsTrue (is_qualifier bytes) }
+    ensures { result ≡ bytes }
 {
-    match Qualifier::new(alloc, bytes)? {
-        Some(name) => Ok(name),
+    match Qualifier::from_blob(bytes) {
+        Some(name) => name,
         None => unreachable!(),
     }
 }

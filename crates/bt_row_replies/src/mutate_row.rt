@@ -20,13 +20,13 @@ pub fn mutate_row(
     alloc: Global,
     present: &Present,
     name: &TableName,
-    key: &Blob,
+    key: Blob,
     mutations: AskedMutationList,
     moment: u64,
 ) -> Result<Plan, OutOfMemory>
     requires not_before { present.now.floor ≤ moment }
     requires not_past { moment ≤ last_moment }
-    ensures { IfOk result (λ plan. IsPlan plan present.now (mutate_reply moment key.now mutations (table_of name.now present.now.schema))) }
+    ensures { IfOk result (λ plan. IsPlan plan present.now (mutate_reply moment key mutations (table_of name.now present.now.schema))) }
 {
     let Some(table) = present.table(name) else {
         return Ok(Plan::refuses(Refusal::TableNotFound));

@@ -120,7 +120,7 @@ impl Judged {
         ensures spellable { OnOk result (AllByRecursion (λ n. IsSpellableEntry n.entry) self.new.rows) }
     {
         let AskedEntry { key, mutations } = asked;
-        match row_entry(alloc, table, &key, mutations, moment) {
+        match row_entry(alloc, table, key, mutations, moment) {
             Ok(entry) => {
                 self.statuses.push(accepted_status(alloc)?)?;
                 put_entry(&mut self.rows, first, moment, entry)

@@ -15,7 +15,6 @@ use bt_requests::{AskedFamily, AskedFamilyList};
 use bt_rules::{Families, Family, Rule, check_rule};
 use bt_types::FamilyName;
 use std::alloc::Global;
-use std::str;
 
 /// A table has no more families, which is this service's own limit.
 pub(crate) const MOST_FAMILIES: usize = 100;
@@ -46,20 +45,9 @@ pub(crate) fn lawful_name(alloc: Global, bytes: &[u8]) -> Result<FamilyName, NoP
     ensures refusal { Refuses (refused_if (not (is_family_name bytes.now)) refusal.BadFamilyName) result }
     ensures name { IfOk result (λ name. name ≡ bytes.now) }
 {
-    match family_name(alloc, bytes)? {
+    match FamilyName::from_bytes(alloc, bytes)? {
         Some(name) => Ok(name),
         None => Err(NoPlan::Refused(Refusal::BadFamilyName)),
-    }
-}
-
-// A name is ASCII, so what is no UTF-8 is none.
-#[tactic(auto, using(bt_entry::proofs::LawfulNames::is_no_family))]
-fn family_name(alloc: Global, bytes: &[u8]) -> Result<Option<FamilyName>, OutOfMemory>
-    ensures { IfOk result (λ name. name ≡ lawful is_family_name bytes.now) }
-{
-    match str::from_utf8(bytes) {
-        Ok(text) => FamilyName::new(alloc, text),
-        Err(_) => Ok(None),
     }
 }
 

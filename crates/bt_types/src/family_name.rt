@@ -6,6 +6,7 @@ use crate::bytes_of_names::is_family;
 use bt_base::{OutOfMemory, Plain};
 use std::alloc::Global;
 use std::marker::Model;
+use std::str;
 
 /// The name of a column family: 1 to 64 characters of `[-_.a-zA-Z0-9]`
 /// (`google.bigtable.v2.Family.name`). A contract sees its bytes.
@@ -35,6 +36,18 @@ impl FamilyName {
         }
         let held = String::from_str(alloc, text)?;
         Ok(Some(FamilyName { held }))
+    }
+
+    /// The name that the bytes are, or `None` where they are none. A name is ASCII, so what is no
+    /// UTF-8 is none.
+    #[tactic(auto, using(crate::proofs::LawfulNames::is_no_family))]
+    pub fn from_bytes(alloc: Global, bytes: &[u8]) -> Result<Option<FamilyName>, OutOfMemory>
+        ensures { IfOk result (λ name. name ≡ lawful is_family_name bytes.now) }
+    {
+        match str::from_utf8(bytes) {
+            Ok(text) => FamilyName::new(alloc, text),
+            Err(_) => Ok(None),
+        }
     }
 
     pub fn bytes(&self) -> &[u8]

@@ -2,7 +2,7 @@
 ghost use Rattle.std.specs.Prelude.{◌≡◌, IsTrue, IfOk};
 ghost use Rattle.bt_types.specs.Grammar.{lawful, is_qualifier};
 
-use bt_base::{OutOfMemory, Plain};
+use bt_base::{Blob, OutOfMemory, Plain};
 use std::alloc::Global;
 use std::marker::Model;
 
@@ -36,6 +36,17 @@ impl Qualifier {
         }
         let held = Vec::from_slice(alloc, bytes)?;
         Ok(Some(Qualifier { held }))
+    }
+
+    /// The same without a copy.
+    pub fn from_blob(bytes: Blob) -> Option<Qualifier>
+        ensures { result ≡ lawful is_qualifier bytes }
+    {
+        let held = bytes.into_vec();
+        if held.len() > MOST_BYTES {
+            return None;
+        }
+        Some(Qualifier { held })
     }
 
     pub fn bytes(&self) -> &[u8]

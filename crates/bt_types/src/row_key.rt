@@ -7,7 +7,7 @@ ghost use Rattle.std.specs.Cmp.Rules.{comparing};
 ghost use Rattle.std.proofs.Common.{rules};
 ghost use Rattle.bt_types.specs.Grammar.{is_row_key, lawful};
 
-use bt_base::{OutOfMemory, Plain};
+use bt_base::{Blob, OutOfMemory, Plain};
 use std::alloc::Global;
 use std::cmp::Ordering;
 use std::marker::Model;
@@ -42,6 +42,17 @@ impl RowKey {
         }
         let held = Vec::from_slice(alloc, bytes)?;
         Ok(Some(RowKey { held }))
+    }
+
+    /// The same without a copy.
+    pub fn from_blob(bytes: Blob) -> Option<RowKey>
+        ensures { result ≡ lawful is_row_key bytes }
+    {
+        let held = bytes.into_vec();
+        if held.is_empty() || held.len() > MOST_BYTES {
+            return None;
+        }
+        Some(RowKey { held })
     }
 
     pub fn bytes(&self) -> &[u8]

@@ -12,6 +12,7 @@ use bt_base::{OutOfMemory, Plain};
 use std::alloc::Global;
 use std::cmp::Ordering;
 use std::marker::Model;
+use std::str;
 
 /// The name of a table, `projects/P/instances/I/tables/T`
 /// (`google.bigtable.admin.v2.Table.name`). P and I are 1 to 100 characters of
@@ -61,6 +62,18 @@ impl TableName {
         name.push_str("/tables/")?;
         name.push_str(id)?;
         TableName::new(alloc, name.as_str())
+    }
+
+    /// The name that the bytes are, or `None` where they are none. A name is ASCII, so what is no
+    /// UTF-8 is none.
+    #[tactic(auto, using(crate::proofs::LawfulNames::is_no_table))]
+    pub fn from_bytes(alloc: Global, bytes: &[u8]) -> Result<Option<TableName>, OutOfMemory>
+        ensures { IfOk result (λ name. name ≡ lawful is_table_name bytes.now) }
+    {
+        match str::from_utf8(bytes) {
+            Ok(text) => TableName::new(alloc, text),
+            Err(_) => Ok(None),
+        }
     }
 
     pub fn bytes(&self) -> &[u8]

@@ -1,5 +1,5 @@
 use Rattle.std.proofs.Common.{arith}
-use Rattle.bt_entry.proofs.LawfulNames.{family_len}
+use Rattle.bt_types.proofs.LawfulNames.{family_len}
 use Rattle.bt_entry.proofs.writing_fields.put_family_name.Goals as goal
 
 pub put_text8-requires : goal.put_text8-requires

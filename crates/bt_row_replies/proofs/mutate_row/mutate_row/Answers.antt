@@ -15,17 +15,17 @@ pub changes-requires : goal.changes-requires
 changes-requires c =
     let t = c.in-Some.table.now in
     let m = c.args.moment in
-    let none : mutate_refusal c.args.key.now c.args.mutations t ≡ None = search rules in
-    let is : c.in-Ok.entry ≡ Row t.incarnation c.args.key.now false (resolved m c.args.mutations) = search rules in
+    let none : mutate_refusal c.args.key c.args.mutations t ≡ None = search rules in
+    let is : c.in-Ok.entry ≡ Row t.incarnation c.args.key false (resolved m c.args.mutations) = search rules in
     let own : table_at t.incarnation c.args.present.now.schema ≡ Some t = search rules in
     let spellable : IsSpellableEntry c.in-Ok.entry = search rules in
-    let came = may_come t m c.args.key.now c.args.mutations none (subst IsSpellableEntry is spellable) c.requires.not_past in
+    let came = may_come t m c.args.key c.args.mutations none (subst IsSpellableEntry is spellable) c.requires.not_past in
     subst (λ (e : Entry). IsLawful c.args.present.now (event m e)) (sym is) (came.lawful c.args.present.now own c.requires.not_before)
 
 pub returns-in-Ok : goal.returns-in-Ok
 returns-in-Ok c =
     let t = c.in-Some.table.now in
-    let none : mutate_refusal c.args.key.now c.args.mutations t ≡ None = search rules in
-    let is : c.in-Ok.entry ≡ Row t.incarnation c.args.key.now false (resolved c.args.moment c.args.mutations) = search rules in
+    let none : mutate_refusal c.args.key c.args.mutations t ≡ None = search rules in
+    let is : c.in-Ok.entry ≡ Row t.incarnation c.args.key false (resolved c.args.moment c.args.mutations) = search rules in
     let found : table_of c.args.name.now c.args.present.now.schema ≡ Some t = search rules in
     rw (found, none, ← is) (c.changes.ensures.reply MutateRow refl)
