@@ -1,5 +1,6 @@
 pub mod Shapes
 pub mod Values
+pub mod Alone
 pub mod Members
 pub mod Faults
 pub mod Walk

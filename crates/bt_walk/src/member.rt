@@ -1,12 +1,13 @@
 //! Whether a member is itself what the walk looks for.
-ghost use Rattle.std.specs.Prelude.{◌≡◌, map, option_map};
+ghost use Rattle.std.specs.Prelude.{◌≡◌, ◌&&◌, not, map, option_map, IfSome};
 ghost use Rattle.serde_json.specs.View.{view};
 ghost use Rattle.bt_walk.specs.Shapes.{seen};
+ghost use Rattle.bt_walk.specs.Alone.{alone};
 ghost use Rattle.bt_walk.specs.Members.{is_absent, is_unsupported, is_there, is_plain, is_renamed, is_set, has_choice, is_too_many, is_wrong};
 
 use crate::found::Pass;
 use crate::leaf::{fits, is_zero};
-use crate::shape::{Member, Schema, Shape, Support};
+use crate::shape::{Member, Schema, Shape, Support, is_named};
 use serde_json::Value;
 
 pub(crate) fn is_absent(support: Support, value: &Value) -> bool
@@ -73,12 +74,55 @@ fn has_choice(whole: &Value, choice: u8, name: &str, members: &[Member]) -> bool
     }
 }
 
-// By both its names, or as a later one of its oneof.
+// The only entry of an object.
+fn only_entry(whole: &Value) -> Option<(&str, &Value)>
+    ensures { IfSome result (λ entry. view whole.now ≡ alone entry.0.now (view entry.1.now)) }
+{
+    match whole {
+        Value::Object(entries) if entries.len() == 1 => {
+            let (key, value) = entries.first_key_value()?;
+            Some((key.as_str(), value))
+        }
+        _ => None,
+    }
+}
+
+// `is_set` of the object that has only this entry.
+fn is_set_alone(key: &str, value: &Value, member: &Member) -> bool
+    ensures { result ≡ is_set (alone key.now (view value.now)) (seen member.now) }
+{
+    is_named(member, key) && !is_absent(member.support, value)
+}
+
+// `has_choice` of the object that has only this entry.
+fn has_choice_alone(key: &str, value: &Value, choice: u8, name: &str, members: &[Member]) -> bool
+    ensures { result
+        ≡ has_choice (alone key.now (view value.now)) choice name.now (map seen members.now) }
+{
+    match members {
+        [] => false,
+        [member, rest @ ..] => {
+            member.choice == choice && is_set_alone(key, value, member) && member.name.0 < name
+                || has_choice_alone(key, value, choice, name, rest)
+        }
+    }
+}
+
+// By both its names, or as a later one of its oneof. An only entry is compared with the names, since
+// to look up each name costs more.
 fn is_too_many(whole: &Value, members: &[Member], member: &Member) -> bool
     ensures { result ≡ is_too_many (view whole.now) (map seen members.now) (seen member.now) }
 {
-    is_plain(whole, member) && is_renamed(whole, member)
-        || member.choice != 0 && has_choice(whole, member.choice, member.name.0, members)
+    let Member { name, choice, .. } = *member;
+    match only_entry(whole) {
+        Some((key, value)) => {
+            choice != 0 && has_choice_alone(key, value, choice, name.0, members)
+        }
+        None => {
+            is_renamed(whole, member) && is_plain(whole, member)
+                || choice != 0 && has_choice(whole, choice, name.0, members)
+        }
+    }
 }
 
 /// Whether a member that is present is itself what the pass looks for.

@@ -75,7 +75,7 @@ pub trait Schema {
         ensures { result.now ≡ (table self.now).names list };
 }
 
-fn is_named(member: &Member, key: &str) -> bool
+pub(crate) fn is_named(member: &Member, key: &str) -> bool
     ensures { result ≡ is_named key.now (seen member.now) }
 {
     member.name.0 == key || member.name.1 == key

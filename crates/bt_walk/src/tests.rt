@@ -79,6 +79,7 @@ fn the_first_fault_is_told(rt: HostRuntime) -> Result<(), Fail> {
     for (text, want) in [
         (r#"{"anyPart":{},"count":null,"named":{"x":null}}"#, "- -"),
         (r#"[]"#, "- it"),
+        (r#"{"any_part":{"count":1}}"#, "- -"),
         (r#"{"anyPart":{},"flag":false}"#, "- flag"),
         (r#"{"any_part":{},"flag":false,"count":0}"#, "- count"),
         (r#"{"count":"x","any_part":{}}"#, "- count"),
