@@ -125,7 +125,7 @@ row_again by_rule i key ms rest fits =
     ap (row_at by_rule) parts ∙ rw (u64_codec.again i (text w16 key ++ (list w32 mutation ms ++ rest)) fits.0, key_codec.again key (list w32 mutation ms ++ rest) fits.1, mutations_codec.again ms rest (all.1, le-leb _ _ all.0, of_each IsSpellableMutation 0 ms all.2)) refl
 
 -- 0 and the retentions of streams fit 8 bytes
-retention_small : (r : ℕ) → IsTrue (is_retention r) → r < 2 ^ 64
+pub retention_small : (r : ℕ) → IsTrue (is_retention r) → r < 2 ^ 64
 retention_small r h =
     elim (or_cases (eqb r 0) (is_lawful_retention r) h) [
       | inl none ↦ let nothing : r ≡ 0 = eqb-true r 0 none in omega (arith, nothing)

@@ -85,12 +85,12 @@ family_in before m bytes le =
     then_in m _ _ (name_in w8 1 64 (is_family_behind before) m bytes le) (λ f j.
     then_in m _ _ (rule_or_none_in m f.1 j) (λ r k. k))
 
-family_list_in : Keeps family_list_at
+pub family_list_in : Keeps family_list_at
 family_list_in m bytes le = counted_in w16 (λ n. nat_le n most_families) families_at (λ n. many_in family_at name_of family_in n []) m bytes le
 
 -- ---- entries
 
-retention_in : Keeps (number_with w64 is_retention)
+pub retention_in : Keeps (number_with w64 is_retention)
 retention_in m bytes le = tested_in w64 is_retention m bytes le
 
 row_in : (by_rule : Bool) → Keeps (row_at by_rule)

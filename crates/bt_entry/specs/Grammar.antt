@@ -49,6 +49,10 @@ is_below a b = match_ordering (slice_cmp nat_cmp a b) true false false
 abbrev pub is_family_behind : List ℕ → List ℕ → Bool
 is_family_behind before name = is_family_name name && is_below before name
 
+-- the same of the name of a table
+abbrev pub is_table_behind : List ℕ → List ℕ → Bool
+is_table_behind before name = is_table_name name && is_below before name
+
 abbrev pub IsSpellableMutation : Mutation → Type 0
 IsSpellableMutation (SetCell family qualifier at value) = IsTrue (is_family_name family) × IsTrue (is_qualifier qualifier) × IsTrue (is_micros at) × (length value ≤ most_of_value)
 IsSpellableMutation (DeleteColumn family qualifier start end) = IsTrue (is_family_name family) × IsTrue (is_qualifier qualifier) × (start ≤ last_time) × (end ≤ last_time)

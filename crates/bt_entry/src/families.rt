@@ -13,8 +13,9 @@ use std::alloc::Global;
 
 const MOST_FAMILIES: u16 = 100;
 
+/// The families of a table: a count, and so many families.
 #[tactic(auto, unfolding(bt_codec::specs::Reading::counted_at))]
-pub(crate) fn family_list_at(alloc: Global, bytes: &[u8]) -> Result<(Families, &[u8]), Fault>
+pub fn family_list_at(alloc: Global, bytes: &[u8]) -> Result<(Families, &[u8]), Fault>
     ensures { Gives (λ x. (x.0, x.1.now)) result (family_list_at bytes.now) }
 {
     let (count, rest) = family_count_at(bytes)?;

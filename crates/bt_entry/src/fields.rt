@@ -24,8 +24,9 @@ const MOST_RETENTION: u64 = 604_800_000_000;
 
 const MOST_OF_VALUE: usize = 4_194_304;
 
+/// A moment, in microseconds since 1970.
 #[tactic(auto, unfolding(bt_codec::specs::Reading::number_with))]
-pub(crate) fn moment_at(bytes: &[u8]) -> Result<(u64, &[u8]), Fault>
+pub fn moment_at(bytes: &[u8]) -> Result<(u64, &[u8]), Fault>
     ensures { Gives (λ x. (x.0, x.1.now)) result (number_with w64 (λ n. nat_le n last_moment) bytes.now) }
 {
     let (moment, rest) = u64_at(bytes)?;
@@ -47,8 +48,9 @@ pub(crate) fn time_at(bytes: &[u8]) -> Result<(u64, &[u8]), Fault>
     Ok((time, rest))
 }
 
+/// For how many microseconds changes are kept for streams: 0, or one to seven days.
 #[tactic(auto, unfolding(bt_codec::specs::Reading::number_with))]
-pub(crate) fn retention_at(bytes: &[u8]) -> Result<(u64, &[u8]), Fault>
+pub fn retention_at(bytes: &[u8]) -> Result<(u64, &[u8]), Fault>
     ensures { Gives (λ x. (x.0, x.1.now)) result (number_with w64 is_retention bytes.now) }
 {
     let (retention, rest) = u64_at(bytes)?;

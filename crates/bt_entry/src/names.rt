@@ -2,7 +2,7 @@
 ghost use Rattle.std.specs.Prelude.{◌≡◌, IfOk};
 ghost use Rattle.std.specs.Int.{w8, w16};
 ghost use Rattle.bt_types.specs.Grammar.{is_family_name, is_table_name, lawful};
-ghost use Rattle.bt_entry.specs.Grammar.{is_below, is_family_behind};
+ghost use Rattle.bt_entry.specs.Grammar.{is_below, is_family_behind, is_table_behind};
 ghost use Rattle.bt_codec.specs.Reading.{Gives, text_with};
 
 use bt_base::OutOfMemory;
@@ -58,6 +58,37 @@ pub(crate) fn table_name_at(alloc: Global, bytes: &[u8]) -> Result<(TableName, &
             left: text.len() + rest.len(),
         }),
     }
+}
+
+/// A name that comes behind the one before it.
+#[tactic(auto, unfolding(bt_codec::specs::Reading::text_with))]
+pub fn next_table_name_at<'a>(
+    alloc: Global,
+    before: &[u8],
+    bytes: &'a [u8],
+) -> Result<(TableName, &'a [u8]), Fault>
+    ensures { Gives (λ x. (x.0, x.1.now)) result (text_with w16 31 278 (is_table_behind before.now) bytes.now) }
+{
+    let (text, rest) = text16_at(LEAST_OF_TABLE, MOST_OF_TABLE, bytes)?;
+    match next_table_name(alloc, before, text)? {
+        Some(name) => Ok((name, rest)),
+        None => Err(Fault::Bad {
+            left: text.len() + rest.len(),
+        }),
+    }
+}
+
+fn next_table_name(
+    alloc: Global,
+    before: &[u8],
+    bytes: &[u8],
+) -> Result<Option<TableName>, OutOfMemory>
+    ensures { IfOk result (λ name. name ≡ lawful (is_table_behind before.now) bytes.now) }
+{
+    if !is_below(before, bytes) {
+        return Ok(None);
+    }
+    TableName::from_bytes(alloc, bytes)
 }
 
 fn next_family_name(

@@ -12,7 +12,8 @@ use bt_codec::{put_u16, put_u32, put_u64};
 use bt_rules::{Families, Family, Rule};
 use std::alloc::AllocError;
 
-pub(crate) fn put_families(out: &mut Vec<u8>, families: &Families) -> Result<(), AllocError>
+/// A count, and so many families.
+pub fn put_families(out: &mut Vec<u8>, families: &Families) -> Result<(), AllocError>
     requires { AreWritableFamilies families.now }
     ensures spelled { OnOk result (out.new.items ≡ out.old.items ++ list w16 family families.now) }
     ensures spellable { OnOk result (AreSpellableFamilies families.now) }

@@ -18,7 +18,8 @@ pub(crate) fn put_family_name(out: &mut Vec<u8>, name: &FamilyName) -> Result<()
     put_text8(out, name.bytes())
 }
 
-pub(crate) fn put_table_name(out: &mut Vec<u8>, name: &TableName) -> Result<(), AllocError>
+/// A length, and the bytes of the name.
+pub fn put_table_name(out: &mut Vec<u8>, name: &TableName) -> Result<(), AllocError>
     ensures spelled { OnOk result (out.new.items ≡ out.old.items ++ text w16 name.now) }
     ensures lawful { IsTrue (is_table_name name.now) }
 {
