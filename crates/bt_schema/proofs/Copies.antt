@@ -11,7 +11,7 @@ use Rattle.std.specs.BTreeMap.{insert_entry}
 use Rattle.std.proofs.lemmas.Map.Keys.{sorted_head, sorted_tail}
 
 module _ {K X : Type 0} where
-  of_last : (P : K → Type 0) (e : K × X) (es rest : List (K × X)) → AllByRecursion P (keys_of (es ++ e ∷ rest)) → P e.0
+  pub of_last : (P : K → Type 0) (e : K × X) (es rest : List (K × X)) → AllByRecursion P (keys_of (es ++ e ∷ rest)) → P e.0
   of_last P e [] rest all = all.0
   of_last P e (f ∷ es) rest all = of_last P e es rest all.1
 

@@ -1,3 +1,8 @@
 pub mod Indexes
 pub mod Altered
 pub mod Copies
+pub mod Named
+pub mod Ends
+pub mod Spelled
+pub mod Places
+pub mod Written

@@ -1,2 +1,5 @@
 pub mod Schema
 pub mod Indexed
+pub mod Grammar
+pub mod Spelling
+pub mod Reading

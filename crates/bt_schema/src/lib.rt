@@ -1,9 +1,11 @@
-//! The tables without their rows, and what an entry of the history changes in them.
+//! The tables without their rows, what an entry of the history changes in them, and their one
+//! spelling in bytes.
 #![tactic(auto)]
 
 mod changes;
 mod checks;
 mod families;
+mod reading;
 mod refusal;
 mod schema;
 

@@ -6,6 +6,7 @@ ghost use Rattle.std.specs.BTreeMap.{insert_entry};
 ghost use Rattle.bt_schema.specs.Schema.{changed_at, table_at, table_of, with_families, with_retention, without};
 
 mod copies;
+mod writing;
 
 use bt_base::{OutOfMemory, Plain};
 use bt_entry::TableInfo;
@@ -27,7 +28,7 @@ pub struct Schema {
 impl Model for Schema {
     ghost use Rattle.std.specs.Prelude.{List, ℕ};
     ghost use Rattle.bt_entry.specs.declared.table_info.TableInfo.{TableInfo};
-    ghost use Rattle.bt_schema.specs.Indexed.{AreIndexed};
+    ghost use Rattle.bt_schema.specs.Indexed.{AreIndexed, AreNamed};
     ghost use Rattle.bt_rules.specs.contracts.rule.Rule as rule;
     ghost use Rattle.std.specs.Coded.{codes};
 
@@ -37,7 +38,7 @@ impl Model for Schema {
 
     ghost view = { λ s. s.tables.entries };
 
-    ghost invariant = { λ s. AreIndexed s.names.entries s.tables.entries };
+    ghost invariant = { λ s. AreIndexed s.names.entries s.tables.entries × AreNamed s.tables.entries };
 }
 
 impl Schema {

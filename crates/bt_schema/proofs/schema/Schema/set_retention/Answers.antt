@@ -6,6 +6,7 @@ use Rattle.std.specs.BTreeMap.{is_at}
 use Rattle.std.specs.Option.{option_copied_mut}
 use Rattle.bt_schema.specs.Schema.{changed_at, name_is, table_at, with_retention}
 use Rattle.bt_schema.proofs.Altered.{named, found_named, changed_there, indexed_changed}
+use Rattle.bt_schema.proofs.Named.{named_changed}
 use Rattle.bt_schema.proofs.schema.Schema.set_retention.Goals as goal
 
 -- a table that is there has a name at its incarnation
@@ -15,7 +16,7 @@ unreachable-requires c =
     let tables = c.self.inside.tables.entries in
     let some : IsSome (table_at c.args.incarnation tables) = subst (λ s. IsSome (table_at c.args.incarnation s)) (sym c.self.view_is) c.requires in
     let absent : lookup (is_at (nat_cmp c.args.incarnation)) names ≡ None = search rules in
-    named names c.args.incarnation tables some c.self.invariant absent
+    named names c.args.incarnation tables some c.self.invariant.0 absent
 
 -- and is found by it
 pub unreachable-requires-in_default-get_mut : goal.unreachable-requires-in_default-get_mut
@@ -26,7 +27,7 @@ unreachable-requires-in_default-get_mut c =
     let some : IsSome (table_at c.args.incarnation tables) = subst (λ s. IsSome (table_at c.args.incarnation s)) (sym c.self.view_is) c.requires in
     let there : lookup (is_at (nat_cmp c.args.incarnation)) names ≡ Some name = search rules in
     let absent : lookup (name_is name) tables ≡ None = search rules in
-    found_named names c.args.incarnation name tables some c.self.invariant there absent
+    found_named names c.args.incarnation name tables some c.self.invariant.0 there absent
 
 -- it alone changes
 pub returns : goal.returns
@@ -40,7 +41,7 @@ returns c =
     let there : lookup (is_at (nat_cmp c.args.incarnation)) names ≡ Some name = search rules in
     let found : lookup (name_is name) tables ≡ Some info = sym c.get_mut.ensures.value ∙ ap option_copied_mut c.in-Some-get_mut.is in
     let written : (c.get_mut.follows.lender c.set_retention.new.table).entries ≡ set_value (name_is name) tables c.set_retention.new.table = search rules in
-    written ∙ ap (set_value (name_is name) tables) c.set_retention.ensures ∙ changed_there names c.args.incarnation name info change tables some c.self.invariant there found ∙ ap (changed_at c.args.incarnation change) c.self.view_is
+    written ∙ ap (set_value (name_is name) tables) c.set_retention.ensures ∙ changed_there names c.args.incarnation name info change tables some c.self.invariant.0 there found ∙ ap (changed_at c.args.incarnation change) c.self.view_is
 
 -- and keeps its incarnation
 pub invariant_of-self : goal.invariant_of-self
@@ -54,5 +55,5 @@ invariant_of-self c =
     let there : lookup (is_at (nat_cmp c.args.incarnation)) names ≡ Some name = search rules in
     let found : lookup (name_is name) tables ≡ Some info = sym c.get_mut.ensures.value ∙ ap option_copied_mut c.in-Some-get_mut.is in
     let written : (c.get_mut.follows.lender c.set_retention.new.table).entries ≡ set_value (name_is name) tables c.set_retention.new.table = search rules in
-    let changed : (c.get_mut.follows.lender c.set_retention.new.table).entries ≡ changed_at c.args.incarnation change tables = written ∙ ap (set_value (name_is name) tables) c.set_retention.ensures ∙ changed_there names c.args.incarnation name info change tables some c.self.invariant there found in
-    rw changed (indexed_changed names c.args.incarnation change (λ t. refl) tables c.self.invariant)
+    let changed : (c.get_mut.follows.lender c.set_retention.new.table).entries ≡ changed_at c.args.incarnation change tables = written ∙ ap (set_value (name_is name) tables) c.set_retention.ensures ∙ changed_there names c.args.incarnation name info change tables some c.self.invariant.0 there found in
+    rw changed (indexed_changed names c.args.incarnation change (λ t. refl) tables c.self.invariant.0, named_changed c.args.incarnation change (λ t. refl) tables c.self.invariant.1)

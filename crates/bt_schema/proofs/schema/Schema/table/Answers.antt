@@ -8,4 +8,4 @@ use Rattle.bt_schema.proofs.schema.Schema.table.Goals as goal
 pub returns-clause-own : goal.returns-clause-own
 returns-clause-own c =
     let found : option_map (λ t. t.now) c.get.result ≡ lookup (name_is c.args.name.now) c.self.inside.tables.entries = search rules in
-    rw (← c.self.view_is) (own_if (λ t. t.now) c.self.inside.names.entries c.args.name.now c.self.inside.tables.entries c.get.result found c.self.invariant)
+    rw (← c.self.view_is) (own_if (λ t. t.now) c.self.inside.names.entries c.args.name.now c.self.inside.tables.entries c.get.result found c.self.invariant.0)

@@ -11,7 +11,7 @@ pub returns-in_default : goal.returns-in_default
 returns-in_default c =
     let names = c.self.inside.names.entries in
     let absent : lookup (is_at (nat_cmp c.args.incarnation)) names ≡ None = search rules in
-    rw (← c.self.view_is) (sym (none_named names c.args.incarnation c.self.inside.tables.entries absent c.self.invariant.1))
+    rw (← c.self.view_is) (sym (none_named names c.args.incarnation c.self.inside.tables.entries absent c.self.invariant.0.1))
 
 -- no table has the name
 pub returns-in_default-get : goal.returns-in_default-get
@@ -19,7 +19,7 @@ returns-in_default-get c =
     let names = c.self.inside.names.entries in
     let there : lookup (is_at (nat_cmp c.args.incarnation)) names ≡ Some c.in-Some.name.now = search rules in
     let absent : lookup (name_is c.in-Some.name.now) c.self.inside.tables.entries ≡ None = search rules in
-    rw (← c.self.view_is) (sym (none_found names c.args.incarnation c.in-Some.name.now c.self.inside.tables.entries there absent c.self.invariant.1))
+    rw (← c.self.view_is) (sym (none_found names c.args.incarnation c.in-Some.name.now c.self.inside.tables.entries there absent c.self.invariant.0.1))
 
 -- it is the table's
 pub returns-then-table-incarnation : goal.returns-then-table-incarnation
@@ -27,7 +27,7 @@ returns-then-table-incarnation c =
     let names = c.self.inside.names.entries in
     let there : lookup (is_at (nat_cmp c.args.incarnation)) names ≡ Some c.in-Some.name.now = search rules in
     let found : lookup (name_is c.in-Some.name.now) c.self.inside.tables.entries ≡ Some c.in-Some-get.table.now = search rules in
-    rw (← c.self.view_is) (sym (found_there names c.args.incarnation c.in-Some.name.now _ c.self.inside.tables.entries there found c.self.invariant (eq-eqb _ _ c.if-table-incarnation.true)))
+    rw (← c.self.view_is) (sym (found_there names c.args.incarnation c.in-Some.name.now _ c.self.inside.tables.entries there found c.self.invariant.0 (eq-eqb _ _ c.if-table-incarnation.true)))
 
 -- it is another's
 pub returns-else-table-incarnation : goal.returns-else-table-incarnation
@@ -35,4 +35,4 @@ returns-else-table-incarnation c =
     let names = c.self.inside.names.entries in
     let there : lookup (is_at (nat_cmp c.args.incarnation)) names ≡ Some c.in-Some.name.now = search rules in
     let found : lookup (name_is c.in-Some.name.now) c.self.inside.tables.entries ≡ Some c.in-Some-get.table.now = search rules in
-    rw (← c.self.view_is) (sym (other_there names c.args.incarnation c.in-Some.name.now _ c.self.inside.tables.entries there found c.self.invariant (not_here _ _ c.if-table-incarnation.false)))
+    rw (← c.self.view_is) (sym (other_there names c.args.incarnation c.in-Some.name.now _ c.self.inside.tables.entries there found c.self.invariant.0 (not_here _ _ c.if-table-incarnation.false)))
