@@ -149,6 +149,14 @@ tested_codec w limit wide passes = record {
   again = λ n rest h. rw ((number_codec w limit wide).again n rest h.0, h.1) refl;
 }
 
+-- a number that was read passed its test
+pub test_passed : (w : Width) (passes : ℕ → Bool) (bytes : List ℕ) (n : ℕ × List ℕ) → number_with w passes bytes ≡ Ok n → passes n.0 ≡ true
+unfolding number_with
+test_passed w passes bytes n e =
+    let a = bind_ok (number_at w bytes) (λ n. cond (passes n.0) (Ok n) (Err (length bytes))) n e in
+    let g = passed (passes a.0.0) (length bytes) a.0 n a.2 in
+    subst (λ (p : ℕ × List ℕ). passes p.0 ≡ true) g.1 g.0
+
 -- ---- texts
 
 abbrev pub lies : ℕ → ℕ → ℕ → Bool
@@ -170,6 +178,20 @@ text_takes w limit wide least most bytes t rest fits e =
     let both = Takes-then bytes (to_be_bytes w n.0) n.1 (take n.0 n.1) (drop n.0 n.1) u.0 second in
     let whole : Takes bytes (text w (take n.0 n.1)) (drop n.0 n.1) = subst (λ (k : ℕ). Takes bytes (to_be_bytes w k ++ take n.0 n.1) (drop n.0 n.1)) (sym len) both in
     subst (λ (p : List ℕ × List ℕ). Takes bytes (text w p.0) p.1 × ((least ≤ length p.0) × (length p.0 ≤ most))) (ok_is (take n.0 n.1, drop n.0 n.1) (t, rest) h.1) (whole, (omega (arith, len), omega (arith, len)))
+
+-- a text that was read has one of the lengths that it may have
+pub text_within : (w : Width) (least most : ℕ) (bytes t rest : List ℕ) → text_at w least most bytes ≡ Ok (t, rest) → (least ≤ length t) × (length t ≤ most)
+unfolding text_at
+text_within w least most bytes t rest e =
+    let b = bind_ok (number_with w (lies least most) bytes) (λ n. cond (ltb (length n.1) n.0) (Err (length n.1)) (Ok (take n.0 n.1, drop n.0 n.1))) (t, rest) e in
+    let n = b.0 in
+    let o = and_parts (nat_le least n.0) (nat_le n.0 most) (test_passed w (lies least most) bytes n b.1) in
+    let low : least ≤ n.0 = leb-true _ _ o.0 in
+    let high : n.0 ≤ most = leb-true _ _ o.1 in
+    let h = guard_ok (ltb (length n.1) n.0) (length n.1) (done (take n.0 n.1, drop n.0 n.1)) (t, rest) b.2 in
+    let long : n.0 ≤ length n.1 = ltb-false _ _ h.0 in
+    let len : length (take n.0 n.1) ≡ n.0 = omega (arith, length-take n.0 n.1) in
+    subst (λ (p : List ℕ × List ℕ). (least ≤ length p.0) × (length p.0 ≤ most)) (ok_is (take n.0 n.1, drop n.0 n.1) (t, rest) h.1) (omega (arith, len), omega (arith, len))
 
 pub text_again : (w : Width) (limit : ℕ) → IsWide w limit → (least most : ℕ) → most < limit → (t rest : List ℕ) → least ≤ length t → length t ≤ most → text_at w least most (text w t ++ rest) ≡ Ok (t, rest)
 unfolding text_at

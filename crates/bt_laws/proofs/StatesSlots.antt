@@ -1,15 +1,16 @@
 -- The floor that a manifest says is a moment.
-use Rattle.std.proofs.Common.{◌≡◌, ◌≤◌, ℕ, Bool, true, false, ◌&&◌, ◌==◌, cond, List, [], ◌∷◌, length, Option, None, Some, Ok, Err, refl, subst}
+use Rattle.std.proofs.Common.{◌≡◌, ◌≤◌, ℕ, Bool, true, false, ◌&&◌, ◌==◌, cond, List, [], ◌∷◌, length, None, Some, Result, Ok, Err, refl, subst}
 use Rattle.std.specs.Prelude.{nat_le, nat_lt}
-use Rattle.std.specs.Int.{w64}
+use Rattle.std.specs.Int.{w32, w64}
 use Rattle.std.proofs.lemmas.Bool.{and_parts, leb-true}
 use Rattle.bt_outside.specs.Disk.{Files}
+use Rattle.bt_codec.specs.Reading.{◌>>=◌, text_at}
+use Rattle.bt_codec.proofs.Codecs.{lies, ok_is, passed, test_passed}
 use Rattle.bt_entry.specs.Grammar.{last_moment}
 use Rattle.bt_manifest.specs.declared.snapshot.Snapshot.{Snapshot}
 use Rattle.bt_manifest.specs.Grammar.{most_body, most_number}
-use Rattle.bt_manifest.specs.Reading.{◌>>=◌, bounded_at, list_at, number_at, segments_at, snapshot_in, tables_at, text_at}
+use Rattle.bt_manifest.specs.Reading.{bounded_at, list_at, segments_at, snapshot_in, tables_at}
 use Rattle.bt_manifest.specs.Slots.{Generation, Slot, counting, generation_at, latest, opened_at, said_by, slot_at}
-use Rattle.bt_manifest.proofs.Codecs.{bind_some, passed, some_is}
 
 abbrev Held : Snapshot → Type 0
 Held s = s.floor ≤ last_moment
@@ -18,24 +19,21 @@ abbrev HeldBy : Generation → Type 0
 HeldBy x = Held x.0
 
 -- a number that is read lies within its bounds
-bounded_within : (least most : ℕ) (bytes : List ℕ) (x : ℕ × List ℕ) → bounded_at least most bytes ≡ Some x → x.0 ≤ most
-unfolding bounded_at
+bounded_within : (least most : ℕ) (bytes : List ℕ) (x : ℕ × List ℕ) → bounded_at least most bytes ≡ Ok x → x.0 ≤ most
 bounded_within least most bytes x e =
-    let a = bind_some (number_at w64 bytes) (λ n. cond (nat_le least n.0 && nat_le n.0 most) (Some n) None) x e in
-    let g = passed (nat_le least a.0.0 && nat_le a.0.0 most) a.0 x a.2 in
-    let o = and_parts (nat_le least a.0.0) (nat_le a.0.0 most) g.0 in
-    subst (λ (n : ℕ × List ℕ). n.0 ≤ most) g.1 (leb-true a.0.0 most o.1)
+    let o = and_parts (nat_le least x.0) (nat_le x.0 most) (test_passed w64 (lies least most) bytes x e) in
+    leb-true x.0 most o.1
 
 -- a step of reading that did not fail
-holds : {A B : Type 0} (P : B → Type 0) (r : Option A) (f : A → Option B) (y : B) → (r >>= f) ≡ Some y → ((x : A) → r ≡ Some x → f x ≡ Some y → P y) → P y
-holds P (Some x) f y e rest = rest x refl e
-holds P None f y e rest = absurd cc
+holds : {A B : Type 0} (P : B → Type 0) (r : Result A ℕ) (f : A → Result B ℕ) (y : B) → (r >>= f) ≡ Ok y → ((x : A) → r ≡ Ok x → f x ≡ Ok y → P y) → P y
+holds P (Ok x) f y e rest = rest x refl e
+holds P (Err left) f y e rest = absurd cc
 
-whole : (b : Bool) (x s : Snapshot) → cond b (Some x) None ≡ Some s → Held x → Held s
-whole b x s e held = subst Held (passed b x s e).1 held
+whole : (b : Bool) (left : ℕ) (x s : Snapshot) → cond b (Ok x) (Err left) ≡ Ok s → Held x → Held s
+whole b left x s e held = subst Held (passed b left x s e).1 held
 
 -- a snapshot that is read has a moment as its floor
-snapshot_held : (bytes : List ℕ) (s : Snapshot) → snapshot_in bytes ≡ Some s → Held s
+snapshot_held : (bytes : List ℕ) (s : Snapshot) → snapshot_in bytes ≡ Ok s → Held s
 unfolding snapshot_in
 snapshot_held bytes s e =
     holds Held (bounded_at 0 most_number bytes) _ s e (λ n read e.
@@ -43,18 +41,18 @@ snapshot_held bytes s e =
     holds Held (bounded_at 0 most_number f.1) _ s e (λ b read e.
     holds Held (list_at segments_at b.1) _ s e (λ ss read e.
     holds Held (list_at tables_at ss.1) _ s e (λ ts read e.
-    holds Held (text_at 4294967295 ts.1) _ s e (λ t read e. whole (length t.1 == 0) _ s e (bounded_within 0 last_moment n.1 f floor)))))))
+    holds Held (text_at w32 0 4294967295 ts.1) _ s e (λ t read e. whole (length t.1 == 0) (length t.1) _ s e (bounded_within 0 last_moment n.1 f floor)))))))
 
-opened_held : (file : ℕ) (bytes : List ℕ) (x : Generation) → opened_at file bytes ≡ Some x → Held x.0
+opened_held : (file : ℕ) (bytes : List ℕ) (x : Generation) → opened_at file bytes ≡ Ok x → Held x.0
 unfolding opened_at
 opened_held file bytes x e =
     holds HeldBy (generation_at file bytes) _ x e (λ g read e.
-    holds HeldBy (text_at most_body g.1) _ x e (λ b read e.
-    holds HeldBy (snapshot_in b.0) _ x e (λ s read e. subst HeldBy (some_is (s, g.0) x e) (snapshot_held b.0 s read))))
+    holds HeldBy (text_at w32 0 most_body g.1) _ x e (λ b read e.
+    holds HeldBy (snapshot_in b.0) _ x e (λ s read e. subst HeldBy (ok_is (s, g.0) x e) (snapshot_held b.0 s read))))
 
-said_ok : (file : ℕ) (o : Option Generation) (x : Generation) → said_by file o ≡ Ok (Some x) → o ≡ Some x
-said_ok file None x e = absurd cc
-said_ok file (Some y) x e = cc
+said_ok : (file : ℕ) (o : Result Generation ℕ) (x : Generation) → said_by file o ≡ Ok (Some x) → o ≡ Ok x
+said_ok file (Ok y) x e = cc
+said_ok file (Err left) x e = absurd cc
 
 chosen : (b : Bool) (s : Slot) (x : Generation) → cond b s (Ok None) ≡ Ok (Some x) → s ≡ Ok (Some x)
 chosen true s x e = e

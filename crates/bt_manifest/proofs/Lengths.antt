@@ -4,9 +4,10 @@ use Rattle.std.specs.List.{flat_map}
 use Rattle.std.specs.Int.{w32, to_be_bytes}
 use Rattle.std.proofs.lemmas.List.{length-append, take_more}
 use Rattle.std.proofs.lemmas.List.Concat.{flat_map-append}
+use Rattle.bt_codec.specs.Spelling.{text, list}
 use Rattle.bt_manifest.specs.declared.snapshot.TableFiles.{TableFiles}
 use Rattle.bt_manifest.specs.declared.snapshot.Snapshot.{Snapshot}
-use Rattle.bt_manifest.specs.Spelling.{number, text, list, segment, table, snapshot_bytes}
+use Rattle.bt_manifest.specs.Spelling.{number, segment, table, snapshot_bytes}
 
 -- items of one length
 each_long : {A : Type 0} (spell : A → List ℕ) (n : ℕ) → ((x : A) → length (spell x) ≡ n) → (xs : List A) → length (flat_map spell xs) ≡ n * length xs
@@ -32,4 +33,4 @@ pub snapshot_long : (s : Snapshot) → length (snapshot_bytes s) ≡ 36 + 16 * l
 unfolding snapshot_bytes
 snapshot_long s =
     let segments = each_long segment 16 (λ x. refl) s.segments in
-    omega (arith, segments, length-append (list segment s.segments) (list table s.tables ++ text s.schema), length-append (list table s.tables) (text s.schema), length-append (to_be_bytes w32 (length s.segments)) (flat_map segment s.segments), length-append (to_be_bytes w32 (length s.tables)) (flat_map table s.tables), length-append (to_be_bytes w32 (length s.schema)) s.schema)
+    omega (arith, segments, length-append (list w32 segment s.segments) (list w32 table s.tables ++ text w32 s.schema), length-append (list w32 table s.tables) (text w32 s.schema), length-append (to_be_bytes w32 (length s.segments)) (flat_map segment s.segments), length-append (to_be_bytes w32 (length s.tables)) (flat_map table s.tables), length-append (to_be_bytes w32 (length s.schema)) s.schema)

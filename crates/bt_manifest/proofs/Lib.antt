@@ -1,5 +1,4 @@
 pub mod Codecs
-pub mod Many
 pub mod Snapshots
 pub mod Parts
 pub mod Lengths

@@ -1,6 +1,7 @@
 -- Which snapshots can be written: all else is outside the format.
-use Rattle.std.specs.Prelude.{ℕ, ◌+◌, ◌<◌, ◌≤◌, ◌^◌, List, [], ◌∷◌, length}
+use Rattle.std.specs.Prelude.{ℕ, ◌+◌, ◌<◌, ◌≤◌, ◌^◌, List, length}
 use Rattle.std.specs.List.{AllByRecursion}
+use Rattle.bt_codec.specs.Lists.{AllFrom}
 use Rattle.bt_manifest.specs.declared.snapshot.Segment.{Segment}
 use Rattle.bt_manifest.specs.declared.snapshot.TableFiles.{TableFiles}
 use Rattle.bt_manifest.specs.declared.snapshot.Snapshot.{Snapshot}
@@ -16,11 +17,6 @@ last_moment = 253402300799999999
 -- the body of a slot has at most so many bytes
 abbrev pub most_body : ℕ
 most_body = 1073741824
-
--- each item fits where it stands, and next goes on behind it
-abbrev pub AllFrom : {S A : Type 0} → (S → A → S) → (S → A → Type 0) → S → List A → Type 0
-AllFrom next Fits s [] = Unit {0}
-AllFrom next Fits s (x ∷ xs) = Fits s x × AllFrom next Fits (next s x) xs
 
 abbrev pub IsSegment : Segment → Type 0
 IsSegment s = (s.file ≤ most_number) × (s.first ≤ most_number)

@@ -1,10 +1,13 @@
 -- The two slots, files 0 and 1: what each says, and which one counts.
 use Rattle.std.specs.Prelude.{ℕ, ◌≤◌, ◌%◌, ◌&&◌, ◌==◌, nat_le, nat_lt, if◌then◌else◌, List, [], ◌∷◌, ◌++◌, length, Option, None, Some, Result, Ok, Err}
+use Rattle.std.specs.Int.{w32}
+use Rattle.bt_codec.specs.Reading.{◌>>=◌, Reads, text_at}
+use Rattle.bt_codec.specs.Spelling.{text}
 use Rattle.bt_outside.specs.Disk.{Files, Settles}
 use Rattle.bt_manifest.specs.declared.snapshot.Snapshot.{Snapshot}
 use Rattle.bt_manifest.specs.Grammar.{most_number, most_body, IsSnapshot}
-use Rattle.bt_manifest.specs.Spelling.{number, text, snapshot_bytes}
-use Rattle.bt_manifest.specs.Reading.{◌>>=◌, Reads, bounded_at, text_at, snapshot_in}
+use Rattle.bt_manifest.specs.Spelling.{number, snapshot_bytes}
+use Rattle.bt_manifest.specs.Reading.{bounded_at, snapshot_in}
 
 -- a snapshot and its generation
 abbrev pub Generation : Type 0
@@ -18,19 +21,20 @@ Slot = Result (Option Generation) ℕ
 unfoldable pub generation_at : ℕ → List ℕ → Reads ℕ
 generation_at file bytes = do
   generation ← bounded_at 1 most_number bytes
-  if generation.0 % 2 == file then Some generation else None
+  if generation.0 % 2 == file then Ok generation else Err (length bytes)
 
 -- what stands behind an opened gate; bytes behind the body are ignored
-unfoldable pub opened_at : ℕ → List ℕ → Option Generation
+unfoldable pub opened_at : ℕ → List ℕ → Result Generation ℕ
 opened_at file bytes = do
   generation ← generation_at file bytes
-  body ← text_at most_body generation.1
+  body ← text_at w32 0 most_body generation.1
   snapshot ← snapshot_in body.0
-  Some (snapshot, generation.0)
+  Ok (snapshot, generation.0)
 
-abbrev pub said_by : ℕ → Option Generation → Slot
-said_by file None = Err file
-said_by file (Some x) = Ok (Some x)
+-- a slot with a fault is told by its file, wherever the fault is
+abbrev pub said_by : ℕ → Result Generation ℕ → Slot
+said_by file (Ok x) = Ok (Some x)
+said_by file (Err left) = Err file
 
 -- a slot is opened where its first byte is 1 and twelve bytes or more stand behind it
 abbrev pub slot_at : ℕ → List ℕ → Slot
@@ -58,7 +62,7 @@ pub record CanStand (snapshot : Snapshot) (generation : ℕ) : Type 0 where
 
 -- what stands behind the gate of a slot
 abbrev pub slot_bytes : Snapshot → ℕ → List ℕ
-slot_bytes snapshot generation = number generation ++ text (snapshot_bytes snapshot)
+slot_bytes snapshot generation = number generation ++ text w32 (snapshot_bytes snapshot)
 
 -- the slots have nothing pending
 abbrev pub SlotsSettle : Files → (Files → Type 0) → Type 0

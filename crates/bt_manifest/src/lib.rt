@@ -3,7 +3,6 @@
 #![tactic(auto)]
 
 mod closing;
-mod fault;
 mod fields;
 mod loading;
 mod publishing;

@@ -12,7 +12,8 @@ ghost use Rattle.bt_manifest.specs.Publishing.{IsNext, IsPublishFault, OldOrNew,
 
 use crate::Snapshot;
 use crate::closing::close;
-use crate::writing::{put_count, put_number, put_snapshot};
+use crate::writing::put_snapshot;
+use bt_codec::{put_u32, put_u64};
 use bt_gate::{LogFault, append};
 use bt_outside::{Disk, DiskFailed};
 use std::alloc::{AllocError, Global};
@@ -59,8 +60,8 @@ fn bytes_of(alloc: Global, snapshot: &Snapshot, generation: u64) -> Result<Vec<u
 {
     let length = snapshot.body_length();
     let mut bytes = Vec::with_capacity(alloc, 12 + length as usize)?;
-    put_number(&mut bytes, generation)?;
-    put_count(&mut bytes, length as u32)?;
+    put_u64(&mut bytes, generation)?;
+    put_u32(&mut bytes, length as u32)?;
     put_snapshot(&mut bytes, snapshot)?;
     Ok(bytes)
 }

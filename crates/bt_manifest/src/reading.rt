@@ -1,14 +1,15 @@
 //! The snapshot that bytes spell.
-ghost use Rattle.std.specs.Prelude.{◌≡◌, ◌≤◌, IfOk, Some};
+ghost use Rattle.std.specs.Prelude.{◌≡◌, ◌≤◌, IfOk, Ok};
+ghost use Rattle.bt_codec.specs.Reading.{Gives};
 ghost use Rattle.bt_manifest.specs.declared.snapshot.Snapshot.{Snapshot};
 ghost use Rattle.bt_manifest.specs.Grammar.{IsSnapshot, most_number};
 ghost use Rattle.bt_manifest.specs.Spelling.{snapshot_bytes};
-ghost use Rattle.bt_manifest.specs.Reading.{Gives, files_at, list_at, segment_at, segments_at, snapshot_in, table_at, tables_at};
+ghost use Rattle.bt_manifest.specs.Reading.{files_at, list_at, segment_at, segments_at, snapshot_in, table_at, tables_at};
 
-use crate::fault::Fault;
-use crate::fields::{moment_at, number_from, text_at, u32_at};
+use crate::fields::{moment_at, number_from};
 use crate::{FileNumbers, Segment, SegmentList, Snapshot, TableFileList, TableFiles};
 use bt_base::Blob;
+use bt_codec::{Fault, text32_at, u32_at};
 use std::alloc::Global;
 
 /// The snapshot that all of the bytes spell.
@@ -17,7 +18,7 @@ pub(crate) fn read_snapshot(alloc: Global, bytes: &[u8]) -> Result<Snapshot, Fau
     // What is read is spelled so.
     ensures found { IfOk result (λ s. IsSnapshot s × (bytes.now ≡ snapshot_bytes s)) }
     // What is spelled so is read, unless memory runs out.
-    ensures only { (s : Snapshot) → IsSnapshot s → bytes.now ≡ snapshot_bytes s → Gives (λ x. x) result (Some s) }
+    ensures only { (s : Snapshot) → IsSnapshot s → bytes.now ≡ snapshot_bytes s → Gives (λ x. x) result (Ok s) }
 {
     match snapshot_in(alloc, bytes) {
         Ok(snapshot) => Ok(snapshot),
@@ -34,9 +35,9 @@ fn snapshot_in(alloc: Global, bytes: &[u8]) -> Result<Snapshot, Fault>
     let (base, rest) = number_from(0, rest)?;
     let (segments, rest) = segment_list_at(alloc, rest)?;
     let (tables, rest) = table_list_at(alloc, rest)?;
-    let (schema, rest) = text_at(u32::MAX as usize, rest)?;
+    let (schema, rest) = text32_at(0, u32::MAX as usize, rest)?;
     if !rest.is_empty() {
-        return Err(Fault::Bad);
+        return Err(Fault::Bad { left: rest.len() });
     }
     let schema = Blob::new(alloc, schema)?;
     Ok(Snapshot {
@@ -49,7 +50,7 @@ fn snapshot_in(alloc: Global, bytes: &[u8]) -> Result<Snapshot, Fault>
     })
 }
 
-#[tactic(auto, unfolding(crate::specs::Reading::list_at))]
+#[tactic(auto, unfolding(bt_codec::specs::Reading::counted_at, bt_codec::specs::Reading::number_with))]
 fn segment_list_at(alloc: Global, bytes: &[u8]) -> Result<(SegmentList, &[u8]), Fault>
     ensures { Gives (λ x. (x.0, x.1.now)) result (list_at segments_at bytes.now) }
 {
@@ -79,7 +80,7 @@ fn segment_at(bytes: &[u8]) -> Result<(Segment, &[u8]), Fault>
     Ok((Segment { file, first }, rest))
 }
 
-#[tactic(auto, unfolding(crate::specs::Reading::list_at))]
+#[tactic(auto, unfolding(bt_codec::specs::Reading::counted_at, bt_codec::specs::Reading::number_with))]
 fn table_list_at(alloc: Global, bytes: &[u8]) -> Result<(TableFileList, &[u8]), Fault>
     ensures { Gives (λ x. (x.0, x.1.now)) result (list_at tables_at bytes.now) }
 {
@@ -118,7 +119,7 @@ fn table_at(alloc: Global, least: u64, bytes: &[u8]) -> Result<(TableFiles, &[u8
     Ok((table, rest))
 }
 
-#[tactic(auto, unfolding(crate::specs::Reading::list_at))]
+#[tactic(auto, unfolding(bt_codec::specs::Reading::counted_at, bt_codec::specs::Reading::number_with))]
 fn file_list_at(alloc: Global, bytes: &[u8]) -> Result<(FileNumbers, &[u8]), Fault>
     ensures { Gives (λ x. (x.0, x.1.now)) result (list_at files_at bytes.now) }
 {

@@ -1,14 +1,14 @@
 //! What a slot says.
 ghost use Rattle.std.specs.Prelude.{◌≡◌, ◌≤◌, Ok, Some, IfOk, IfErr};
+ghost use Rattle.bt_codec.specs.Reading.{Gives};
 ghost use Rattle.bt_manifest.specs.Grammar.{most_number};
-ghost use Rattle.bt_manifest.specs.Reading.{Gives};
 ghost use Rattle.bt_manifest.specs.Slots.{CanStand, generation_at, latest, opened_at, slot_at};
 ghost use Rattle.bt_manifest.specs.Loading.{Answers, CouldStand, IsSlotFault};
 
 use crate::Snapshot;
-use crate::fault::Fault;
-use crate::fields::{number_from, text_at};
+use crate::fields::number_from;
 use crate::reading::read_snapshot;
+use bt_codec::{Fault, text32_at};
 use bt_gate::LogFault;
 use std::alloc::Global;
 
@@ -33,7 +33,7 @@ pub(crate) fn slot_of(
     }
     match opened_at(alloc, file, rest) {
         Ok(said) => Ok(Some(said)),
-        Err(Fault::Bad) => Err(LogFault::Damaged { file, at: 0 }),
+        Err(Fault::Bad { .. }) => Err(LogFault::Damaged { file, at: 0 }),
         Err(Fault::OutOfMemory) => Err(LogFault::OutOfMemory),
     }
 }
@@ -44,7 +44,7 @@ fn opened_at(alloc: Global, file: u64, bytes: &[u8]) -> Result<(Snapshot, u64), 
     ensures lawful { IfOk result (λ x. CanStand x.0 x.1) }
 {
     let (generation, rest) = generation_at(file, bytes)?;
-    let (body, _) = text_at(MOST_OF_BODY, rest)?;
+    let (body, _) = text32_at(0, MOST_OF_BODY, rest)?;
     let snapshot = read_snapshot(alloc, body)?;
     Ok((snapshot, generation))
 }
@@ -57,7 +57,7 @@ fn generation_at(file: u64, bytes: &[u8]) -> Result<(u64, &[u8]), Fault>
 {
     let (generation, rest) = number_from(1, bytes)?;
     if generation % 2 != file {
-        return Err(Fault::Bad);
+        return Err(Fault::Bad { left: bytes.len() });
     }
     Ok((generation, rest))
 }

@@ -1,6 +1,7 @@
 use Rattle.std.proofs.lemmas.Result.{err_from_is_err_and}
-use Rattle.bt_manifest.specs.Reading.{file_at, files_at, anywhere}
-use Rattle.bt_manifest.proofs.Many.{goes_on, ends, is_done}
+use Rattle.bt_codec.specs.Reading.{anywhere}
+use Rattle.bt_manifest.specs.Reading.{file_at, files_at}
+use Rattle.bt_codec.proofs.Many.{goes_on, ends, is_done}
 use Rattle.bt_manifest.proofs.reading.files_at.Goals as goal
 
 pub returns-in_err-file : goal.returns-in_err-file

@@ -1,9 +1,9 @@
-use Rattle.std.proofs.Common.{arith, ap, sym, ◌∙◌, Some, ◌≡◌, Option}
+use Rattle.std.proofs.Common.{ℕ, arith, ap, sym, ◌∙◌, ◌≡◌, Result, Ok}
 use Rattle.bt_manifest.specs.declared.snapshot.Snapshot.{Snapshot}
-use Rattle.bt_manifest.specs.declared.fault.Fault.{Fault}
-use Rattle.bt_manifest.specs.declared.fault.Fault.TheVariants as fault
+use Rattle.bt_codec.specs.declared.fault.Fault.{Fault}
+use Rattle.bt_codec.specs.declared.fault.Fault.TheVariants as fault
 use Rattle.bt_manifest.specs.Reading.{snapshot_in}
-use Rattle.bt_manifest.proofs.Many.{Fails}
+use Rattle.bt_codec.proofs.Many.{Fails}
 use Rattle.bt_manifest.proofs.Snapshots.{snapshot_takes, snapshot_again}
 use Rattle.bt_manifest.proofs.reading.read_snapshot.Goals as goal
 
@@ -13,8 +13,8 @@ returns-in-Ok-clause-found c = snapshot_takes c.args.bytes.now c.in-Ok.snapshot 
 pub returns-in-Ok-clause-only : goal.returns-in-Ok-clause-only
 returns-in-Ok-clause-only c = λ s fits e. sym (ap snapshot_in e ∙ snapshot_again s fits) ∙ c.in-Ok.ensures
 
-fails_not : (f : Fault) (read : Option Snapshot) (s : Snapshot) → read ≡ Some s → Fails f read → Fails f (Some s)
-fails_not fault.Bad read s is none = sym is ∙ none
+fails_not : (f : Fault) (read : Result Snapshot ℕ) (s : Snapshot) → read ≡ Ok s → Fails f read → Fails f (Ok s)
+fails_not (fault.Bad left) read s is none = sym is ∙ none
 fails_not fault.OutOfMemory read s is none = tt
 
 pub returns-in-Err-clause-only : goal.returns-in-Err-clause-only

@@ -1,6 +1,7 @@
 use Rattle.std.proofs.lemmas.Result.{err_from_is_err_and}
-use Rattle.bt_manifest.specs.Reading.{segment_at, segments_at, anywhere}
-use Rattle.bt_manifest.proofs.Many.{goes_on, ends, is_done}
+use Rattle.bt_codec.specs.Reading.{anywhere}
+use Rattle.bt_manifest.specs.Reading.{segment_at, segments_at}
+use Rattle.bt_codec.proofs.Many.{goes_on, ends, is_done}
 use Rattle.bt_manifest.proofs.reading.segments_at.Goals as goal
 
 pub returns-in_err-segment : goal.returns-in_err-segment

@@ -1,6 +1,6 @@
 use Rattle.std.proofs.Common.{◌≡◌, ◌-◌}
 use Rattle.bt_manifest.specs.Reading.{segments_at}
-use Rattle.bt_manifest.proofs.Many.{with_front}
+use Rattle.bt_codec.proofs.Many.{with_front}
 use Rattle.bt_manifest.proofs.reading.segments_at.Given as goal
 
 abbrev pub invariant-loop : goal.invariant-loop

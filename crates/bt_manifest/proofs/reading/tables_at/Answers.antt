@@ -1,7 +1,7 @@
 use Rattle.std.proofs.lemmas.Result.{err_from_is_err_and}
 use Rattle.bt_manifest.specs.Grammar.{next_incarnation}
 use Rattle.bt_manifest.specs.Reading.{table_at, tables_at}
-use Rattle.bt_manifest.proofs.Many.{goes_on, ends, is_done}
+use Rattle.bt_codec.proofs.Many.{goes_on, ends, is_done}
 use Rattle.bt_manifest.proofs.reading.tables_at.Goals as goal
 
 pub returns-in_err-table : goal.returns-in_err-table

@@ -1,7 +1,8 @@
 use Rattle.std.proofs.Common.{◌≡◌, ◌-◌}
 use Rattle.bt_manifest.specs.Grammar.{next_incarnation}
-use Rattle.bt_manifest.specs.Reading.{many_at, table_at, tables_at}
-use Rattle.bt_manifest.proofs.Many.{with_front}
+use Rattle.bt_codec.specs.Reading.{many_at}
+use Rattle.bt_manifest.specs.Reading.{table_at, tables_at}
+use Rattle.bt_codec.proofs.Many.{with_front}
 use Rattle.bt_manifest.proofs.reading.tables_at.Given as goal
 
 abbrev pub invariant-loop : goal.invariant-loop

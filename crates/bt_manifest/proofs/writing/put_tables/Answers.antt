@@ -1,7 +1,8 @@
 use Rattle.std.proofs.Common.{length}
 use Rattle.std.specs.Int.{w32, to_be_bytes}
 use Rattle.bt_manifest.specs.Spelling.{table}
-use Rattle.bt_manifest.proofs.Parts.{few_files, one_more}
+use Rattle.bt_codec.proofs.Items.{one_more}
+use Rattle.bt_manifest.proofs.Parts.{few_files}
 use Rattle.bt_manifest.proofs.writing.put_tables.Goals as goal
 
 pub put_table-requires : goal.put_table-requires
