@@ -1,6 +1,6 @@
 //! Members of each kind, by their JSON names and by their original names.
 use super::*;
-use bt_walk::{Many, Pass, Shape, fault};
+use bt_walk::{Many, Shape, faults};
 use serde_json::Value;
 use std::alloc::Global;
 use std::test::Fail;
@@ -44,7 +44,7 @@ fn a_member_that_is_not_known_is_a_fault(rt: HostRuntime) -> Result<(), Fail> {
     let alloc = rt.alloc();
     let value = value(alloc, r#"{"rowKey":"","zoo":1}"#)?;
     let shape = Shape::Of(kinds::MUTATE_ROW);
-    let found = fault(&Messages, Pass::ForBad, Many::One, shape, "request", &value);
-    assert_eq!(rt; found, Some("zoo"));
+    let found = faults(&Messages, Many::One, shape, "request", &value);
+    assert_eq!(rt; found.bad, Some("zoo"));
     Ok(())
 }

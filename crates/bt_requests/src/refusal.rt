@@ -1,11 +1,12 @@
 //! Why a request is refused.
 ghost use Rattle.std.specs.Prelude.{◌≡◌, option_map, IfOk};
 ghost use Rattle.serde_json.specs.View.{view};
+ghost use Rattle.bt_walk.specs.declared.found.Pass.TheVariants.{ForUnsupported, ForBad};
 ghost use Rattle.bt_requests.specs.Refusals.{first_fault, members_refusal};
 
 use bt_base::{Blob, OutOfMemory};
 use bt_members::Messages;
-use bt_walk::{Many, Pass, Shape, fault};
+use bt_walk::{Faults, Many, Shape, faults};
 use serde_json::Value;
 use std::alloc::Global;
 
@@ -44,11 +45,12 @@ pub(crate) fn members_refusal(
 ) -> Result<Option<RequestRefusal>, OutOfMemory>
     ensures { IfOk result (λ r. r ≡ members_refusal message (view value.now)) }
 {
-    if let Some(name) = first_fault(Pass::ForUnsupported, message, value) {
+    let found = first_faults(message, value);
+    if let Some(name) = found.unsupported {
         let name = Blob::new(alloc, name.as_bytes())?;
         return Ok(Some(RequestRefusal::Unsupported { name }));
     }
-    if let Some(name) = first_fault(Pass::ForBad, message, value) {
+    if let Some(name) = found.bad {
         let name = Blob::new(alloc, name.as_bytes())?;
         return Ok(Some(RequestRefusal::BadField { name }));
     }
@@ -56,15 +58,11 @@ pub(crate) fn members_refusal(
 }
 
 #[tactic(auto, unfolding(crate::specs::Refusals::first_fault))]
-fn first_fault<'v>(pass: Pass, message: u8, value: &'v Value) -> Option<&'v str>
-    ensures { option_map (λ n. n.now) result ≡ first_fault pass message (view value.now) }
+fn first_faults<'v>(message: u8, value: &'v Value) -> Faults<'v>
+    ensures unsupported { option_map (λ n. n.now) result.unsupported
+        ≡ first_fault ForUnsupported message (view value.now) }
+    ensures bad { option_map (λ n. n.now) result.bad
+        ≡ first_fault ForBad message (view value.now) }
 {
-    fault(
-        &Messages,
-        pass,
-        Many::One,
-        Shape::Of(message),
-        "request",
-        value,
-    )
+    faults(&Messages, Many::One, Shape::Of(message), "request", value)
 }

@@ -1,8 +1,8 @@
 //! What the walk looks for, and what it finds.
 ghost use Rattle.std.specs.Prelude.{◌≡◌, option_map};
-ghost use Rattle.bt_walk.specs.Faults.{told, first, fault_at, name_of, unknown};
+ghost use Rattle.bt_walk.specs.Faults.{told, first, fault_at, name_of};
 
-/// What a walk looks for.
+/// What is looked for.
 #[derive(Clone, Copy)]
 pub enum Pass {
     /// The first member that is not supported. It goes down only where the shape is right.
@@ -10,6 +10,13 @@ pub enum Pass {
     /// The first bad field: a value outside its shape, an unknown member, a member by both its
     /// names, or a second member of one oneof.
     ForBad,
+}
+
+/// The first fault of each pass.
+#[derive(Clone, Copy)]
+pub struct Faults<'v> {
+    pub unsupported: Option<&'v str>,
+    pub bad: Option<&'v str>,
 }
 
 /// A fault at a member of an object: the member's JSON name, and the name that is told.
@@ -54,18 +61,5 @@ pub(crate) fn within<'v>(place: &'v str, inner: Option<&'v str>) -> Option<Found
     match inner {
         Some(name) => Some(Found { place, name }),
         None => None,
-    }
-}
-
-// A member of a name that the message does not have.
-pub(crate) fn unknown<'v>(pass: Pass, key: &'v str) -> Option<Found<'v>>
-    ensures { option_map told result ≡ unknown pass key.now }
-{
-    match pass {
-        Pass::ForUnsupported => None,
-        Pass::ForBad => Some(Found {
-            place: key,
-            name: key,
-        }),
     }
 }

@@ -3,32 +3,26 @@ ghost use Rattle.std.specs.Prelude.{◌≡◌, option_map};
 ghost use Rattle.serde_json.specs.View.{view};
 ghost use Rattle.serde_json.specs.Find.{as_str};
 ghost use Rattle.bt_walk.specs.Values.{fits, leaf, is_zero, is_blank, has_nothing};
+ghost use Rattle.bt_walk.specs.declared.found.Pass.TheVariants.{ForBad};
 
-use crate::found::Pass;
 use crate::shape::{Many, Schema, Shape};
 use bt_text::{is_bytes, is_duration, is_enum, is_int32, is_int64};
 use serde_json::Value;
 
-/// The fault of a value that has no parts of its shape.
-pub(crate) fn leaf<'v, S: Schema>(
+/// What is bad of a value that has no parts of its shape.
+pub(crate) fn bad_leaf<'v, S: Schema>(
     schema: &S,
-    pass: Pass,
     many: Many,
     shape: Shape,
     name: &'v str,
     value: &Value,
 ) -> Option<&'v str>
     ensures { option_map (λ n. n.now) result
-        ≡ leaf (S.Schema.table schema.now).names pass many shape name.now (view value.now) }
+        ≡ leaf (S.Schema.table schema.now).names ForBad many shape name.now (view value.now) }
 {
-    match (pass, many) {
-        (Pass::ForUnsupported, _) => None,
-        (Pass::ForBad, Many::One) => if fits(schema, shape, value) {
-            None
-        } else {
-            Some(name)
-        },
-        (Pass::ForBad, _) => Some(name),
+    match many {
+        Many::One if fits(schema, shape, value) => None,
+        _ => Some(name),
     }
 }
 

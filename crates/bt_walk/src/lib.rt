@@ -1,4 +1,4 @@
-//! The shapes of JSON messages as data, and one walk that finds the first fault of a message.
+//! The shapes of JSON messages as data, and one walk that finds the first faults of a message.
 #![tactic(auto)]
 
 mod found;
@@ -7,9 +7,9 @@ mod member;
 mod shape;
 mod walk;
 
-pub use found::Pass;
+pub use found::{Faults, Pass};
 pub use shape::{Many, Member, Name, Schema, Shape, Support};
-pub use walk::fault;
+pub use walk::faults;
 
 #[cfg(test)]
 mod tests;

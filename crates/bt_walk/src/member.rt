@@ -3,9 +3,8 @@ ghost use Rattle.std.specs.Prelude.{◌≡◌, ◌&&◌, not, map, option_map, I
 ghost use Rattle.serde_json.specs.View.{view};
 ghost use Rattle.bt_walk.specs.Shapes.{seen};
 ghost use Rattle.bt_walk.specs.Alone.{alone};
-ghost use Rattle.bt_walk.specs.Members.{is_absent, is_unsupported, is_there, is_plain, is_renamed, is_set, has_choice, is_too_many, is_wrong};
+ghost use Rattle.bt_walk.specs.Members.{is_absent, is_unsupported, is_there, is_plain, is_renamed, is_set, has_choice, is_too_many};
 
-use crate::found::Pass;
 use crate::leaf::{fits, is_zero};
 use crate::shape::{Member, Schema, Shape, Support, is_named};
 use serde_json::Value;
@@ -19,7 +18,8 @@ pub(crate) fn is_absent(support: Support, value: &Value) -> bool
     }
 }
 
-fn is_unsupported<S: Schema>(schema: &S, member: &Member, value: &Value) -> bool
+/// Whether a member that is present is itself not supported.
+pub(crate) fn is_unsupported<S: Schema>(schema: &S, member: &Member, value: &Value) -> bool
     ensures { result
         ≡ is_unsupported (S.Schema.table schema.now).names (seen member.now) (view value.now) }
 {
@@ -108,9 +108,9 @@ fn has_choice_alone(key: &str, value: &Value, choice: u8, name: &str, members: &
     }
 }
 
-// By both its names, or as a later one of its oneof. An only entry is compared with the names, since
-// to look up each name costs more.
-fn is_too_many(whole: &Value, members: &[Member], member: &Member) -> bool
+/// Whether a member that is present is so by both its names, or as a later one of its oneof. An only
+/// entry is compared with the names, since to look up each name costs more.
+pub(crate) fn is_too_many(whole: &Value, members: &[Member], member: &Member) -> bool
     ensures { result ≡ is_too_many (view whole.now) (map seen members.now) (seen member.now) }
 {
     let Member { name, choice, .. } = *member;
@@ -122,24 +122,5 @@ fn is_too_many(whole: &Value, members: &[Member], member: &Member) -> bool
             is_renamed(whole, member) && is_plain(whole, member)
                 || choice != 0 && has_choice(whole, choice, name.0, members)
         }
-    }
-}
-
-/// Whether a member that is present is itself what the pass looks for.
-pub(crate) fn is_wrong<S: Schema>(
-    schema: &S,
-    pass: Pass,
-    whole: &Value,
-    members: &[Member],
-    member: &Member,
-    value: &Value,
-) -> bool
-    ensures { result
-        ≡ is_wrong (S.Schema.table schema.now).names pass (view whole.now) (map seen members.now)
-        (seen member.now) (view value.now) }
-{
-    match pass {
-        Pass::ForUnsupported => is_unsupported(schema, member, value),
-        Pass::ForBad => is_too_many(whole, members, member),
     }
 }

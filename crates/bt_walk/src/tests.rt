@@ -60,17 +60,9 @@ fn told(alloc: Global, text: &str) -> Result<String, Fail> {
     let value = Value::from_str(alloc, text)?;
     let schema = Sample { members: &MEMBERS };
     let shape = Shape::Of(0);
-    let unsupported = fault(
-        &schema,
-        Pass::ForUnsupported,
-        Many::One,
-        shape,
-        "it",
-        &value,
-    );
-    let bad = fault(&schema, Pass::ForBad, Many::One, shape, "it", &value);
-    let unsupported = unsupported.unwrap_or("-");
-    let bad = bad.unwrap_or("-");
+    let found = faults(&schema, Many::One, shape, "it", &value);
+    let unsupported = found.unsupported.unwrap_or("-");
+    let bad = found.bad.unwrap_or("-");
     Ok(format!(in alloc; "{unsupported} {bad}")?)
 }
 
