@@ -11,8 +11,8 @@ use Rattle.std.specs.Map.{lookup, keys_of}
 use Rattle.std.specs.BTreeMap.{insert_entry, is_at}
 use Rattle.std.proofs.lemmas.Cmp.{nat_list_cmp_total, tied_itself}
 use Rattle.std.proofs.lemmas.Map.Keys.{sorted_head, sorted_tail}
-use Rattle.bt_entry.specs.declared.table_info.TableInfo.{TableInfo}
 use Rattle.bt_codec.specs.Lists.{AllFrom}
+use Rattle.bt_entry.specs.declared.table_info.TableInfo.{TableInfo}
 use Rattle.bt_entry.specs.Grammar.{is_below}
 use Rattle.bt_types.proofs.LawfulNames.{table_len}
 use Rattle.bt_schema.specs.Schema.{Schema, name_is, table_at}

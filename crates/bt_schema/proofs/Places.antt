@@ -4,7 +4,7 @@ use Rattle.std.specs.Prelude.{nat_le}
 use Rattle.std.specs.Int.{w16, w32, w64}
 use Rattle.bt_entry.specs.Grammar.{is_table_behind, last_moment}
 use Rattle.bt_codec.specs.Reading.{◌>>=◌, Reads, number_at}
-use Rattle.bt_codec.proofs.Places.{Keeps, Within, many_in, name_in, number_in, tested_in, then_in}
+use Rattle.bt_codec.proofs.Places.{Keeps, Within, last_in, many_in, name_in, number_in, tested_in, then_in}
 use Rattle.bt_entry.proofs.Places.{family_list_in, retention_in}
 use Rattle.bt_schema.specs.Schema.{Schema}
 use Rattle.bt_schema.specs.Grammar.{behind, last_name}
@@ -26,22 +26,8 @@ tables_in count m bytes le = many_in table_behind_at behind table_in count [] m 
 counted_in : (m : ℕ) (bytes : List ℕ) → length bytes ≤ m → Within m (number_at w32 bytes >>= λ count. tables_at count.0 count.1)
 counted_in m bytes le = then_in m _ _ (number_in w32 m bytes le) (λ count a. tables_in count.0 m count.1 a)
 
-abbrev fails : ℕ → Result Schema ℕ
-fails left = Err left
-
-left_is : (m l left : ℕ) → fails l ≡ fails left → l ≤ m → left ≤ m
-left_is m l left e le = let same : l ≡ left = cc in subst (λ (k : ℕ). k ≤ m) same le
-
-fault_in : (m : ℕ) (b : Bool) (ts : Schema) (l left : ℕ) → l ≤ m → cond b (Ok ts) (fails l) ≡ fails left → left ≤ m
-fault_in m true ts l left le e = absurd cc
-fault_in m false ts l left le e = left_is m l left e le
-
 abbrev whole : Reads Schema → Result Schema ℕ
 whole read = read >>= λ x. cond (eqb (length x.1) 0) (Ok x.0) (Err (length x.1))
-
-last_in : (m : ℕ) (r : Reads Schema) (left : ℕ) → Within m r → whole r ≡ fails left → left ≤ m
-last_in m (Ok b) left w e = fault_in m (eqb (length b.1) 0) b.0 (length b.1) left w e
-last_in m (Err l) left w e = left_is m l left e w
 
 regrouped : (r : Reads ℕ) → (r >>= λ count. whole (tables_at count.0 count.1)) ≡ whole (r >>= λ count. tables_at count.0 count.1)
 regrouped (Ok count) = refl

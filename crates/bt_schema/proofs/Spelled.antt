@@ -6,18 +6,17 @@ use Rattle.std.specs.Int.{Width, w16, w32, w64, to_be_bytes}
 use Rattle.std.proofs.lemmas.Bool.{and_from, and_parts, eqb-true, leb-true, le-leb}
 use Rattle.std.proofs.lemmas.List.{append-nil, nil_from_length}
 use Rattle.bt_types.specs.Grammar.{is_table_name}
-use Rattle.bt_entry.specs.declared.table_info.TableInfo.{TableInfo}
 use Rattle.bt_codec.specs.Lists.{AllFrom}
+use Rattle.bt_codec.specs.Spelling.{list, text}
+use Rattle.bt_codec.specs.Reading.{◌>>=◌, Reads, many_at, number_at, number_with, text_at, text_with}
+use Rattle.bt_codec.proofs.Codecs.{IsBytes, IsCodec, Takes, Takes-then, bind_ok, chosen, name_codec, number_codec, ok_is, passed, test_passed, tested_codec, u64_codec, wide16, wide32, wide64}
+use Rattle.bt_codec.proofs.Many.{many_again, many_take}
+use Rattle.bt_entry.specs.declared.table_info.TableInfo.{TableInfo}
 use Rattle.bt_entry.specs.Grammar.{is_below, is_retention, is_table_behind, last_moment}
 use Rattle.bt_entry.specs.Spelling.{family}
-use Rattle.bt_codec.specs.Spelling.{list, text}
-use Rattle.bt_codec.specs.Reading.{◌>>=◌, number_at, number_with, text_at, text_with}
 use Rattle.bt_entry.specs.Reading.{family_list_at}
 use Rattle.bt_types.proofs.LawfulNames.{table_len}
-use Rattle.bt_codec.proofs.Codecs.{IsBytes, IsCodec, Takes, Takes-then, bind_ok, chosen, name_codec, number_codec, ok_is, passed, tested_codec, wide16, wide32, wide64}
-use Rattle.bt_codec.proofs.Many.{many_again, many_take}
 use Rattle.bt_entry.proofs.Laws.{families_codec, moment_codec, retention_codec}
-use Rattle.bt_codec.proofs.Codecs.{u64_codec}
 use Rattle.bt_entry.proofs.EntryLaws.{retention_small}
 use Rattle.bt_schema.specs.Schema.{Schema, table_at}
 use Rattle.bt_schema.specs.Grammar.{AreSpellableTables, IsSpellable, IsSpellableTable, StandsBehind, behind, last_name}
@@ -41,13 +40,6 @@ text_passes w least most passes bytes t rest e =
     let a = bind_ok (text_at w least most bytes) (λ t. cond (passes t.0) (Ok t) (Err (length t.0 + length t.1))) (t, rest) e in
     let g = passed (passes a.0.0) (length a.0.0 + length a.0.1) a.0 (t, rest) a.2 in
     subst (λ (p : List ℕ × List ℕ). passes p.0 ≡ true) g.1 g.0
-
-number_passes : (w : Width) (passes : ℕ → Bool) (bytes : List ℕ) (n : ℕ) (rest : List ℕ) → number_with w passes bytes ≡ Ok (n, rest) → passes n ≡ true
-unfolding number_with
-number_passes w passes bytes n rest e =
-    let a = bind_ok (number_at w bytes) (λ n. cond (passes n.0) (Ok n) (Err (length bytes))) (n, rest) e in
-    let g = passed (passes a.0.0) (length bytes) a.0 (n, rest) a.2 in
-    subst (λ (p : ℕ × List ℕ). passes p.0 ≡ true) g.1 g.0
 
 none_of : (o : Option TableInfo) → is_none o ≡ true → o ≡ None
 none_of None e = refl
@@ -100,7 +92,7 @@ stands before bytes x rest e =
     let read = fields_of before bytes x rest e in
     let f = read.1 in
     let name = and_parts (is_table_name x.1.name) (is_below (last_name before) x.1.name) (text_passes w16 31 278 (is_table_behind (last_name before)) bytes x.1.name f.behind_name f.name) in
-    (read.0, name.1, none_of (table_at x.1.incarnation before) (number_passes w64 (is_free before) f.behind_name x.1.incarnation f.behind_incarnation f.incarnation))
+    (read.0, name.1, none_of (table_at x.1.incarnation before) (test_passed w64 (is_free before) f.behind_name (x.1.incarnation, f.behind_incarnation) f.incarnation))
 
 abbrev CanStandBehind : Schema → List ℕ × TableInfo → Type 0
 CanStandBehind before t = StandsBehind before t × IsSpellableTable t.1

@@ -2,8 +2,8 @@
 use Rattle.std.specs.Prelude.{◌≡◌, ℕ, ◌<◌, ◌≤◌, ◌^◌, List, [], ◌∷◌, ◌++◌, length, None, IsTrue}
 use Rattle.std.specs.List.{AllByRecursion, fold}
 use Rattle.bt_types.specs.Grammar.{is_table_name}
-use Rattle.bt_entry.specs.declared.table_info.TableInfo.{TableInfo}
 use Rattle.bt_codec.specs.Lists.{AllFrom}
+use Rattle.bt_entry.specs.declared.table_info.TableInfo.{TableInfo}
 use Rattle.bt_entry.specs.Grammar.{AreSpellableFamilies, AreWritableFamilies, RulesFit, is_below, is_retention, last_moment}
 use Rattle.bt_schema.specs.Schema.{Schema, table_at}
 

@@ -1,11 +1,11 @@
 -- Reading the tables from left to right. A fault is the number of bytes that are left where the first bad field begins.
 use Rattle.std.specs.Prelude.{◌≡◌, ℕ, Bool, List, [], length, Result, Ok, Err, ◌==◌, if◌then◌else◌, is_none, nat_le}
 use Rattle.std.specs.Int.{w16, w32, w64}
+use Rattle.bt_codec.specs.Reading.{◌>>=◌, Reads, many_at, number_at, number_with, placed, text_with}
 use Rattle.bt_entry.specs.declared.fault.BatchRefusal.{BatchRefusal}
 use Rattle.bt_entry.specs.declared.fault.BatchRefusal.TheVariants as refusal
 use Rattle.bt_entry.specs.declared.table_info.TableInfo.{TableInfo}
 use Rattle.bt_entry.specs.Grammar.{is_retention, is_table_behind, last_moment}
-use Rattle.bt_codec.specs.Reading.{◌>>=◌, Reads, many_at, number_at, number_with, placed, text_with}
 use Rattle.bt_entry.specs.Reading.{family_list_at}
 use Rattle.bt_schema.specs.Schema.{Schema, table_at}
 use Rattle.bt_schema.specs.Grammar.{behind, last_name}

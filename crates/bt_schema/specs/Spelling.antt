@@ -1,9 +1,9 @@
 -- The one spelling of the tables without their rows. Numbers are big-endian.
 use Rattle.std.specs.Prelude.{ℕ, List, ◌++◌}
 use Rattle.std.specs.Int.{w16, w32, w64, to_be_bytes}
+use Rattle.bt_codec.specs.Spelling.{list, text}
 use Rattle.bt_entry.specs.declared.table_info.TableInfo.{TableInfo}
 use Rattle.bt_entry.specs.Spelling.{family}
-use Rattle.bt_codec.specs.Spelling.{list, text}
 use Rattle.bt_schema.specs.Schema.{Schema}
 
 -- a name, an incarnation, the begin of the stream and its moment, a retention, and the families

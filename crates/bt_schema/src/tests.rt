@@ -1,5 +1,6 @@
 use crate::{Schema, SchemaRefusal, has_family, is_family_of};
-use bt_entry::{Entry, Numbered};
+use bt_base::Blob;
+use bt_entry::{BatchRefusal, Entry, Numbered};
 use bt_rules::{Families, Family, Rule};
 use bt_types::{FamilyName, Mutation, MutationList, RowKey, TableName};
 use std::alloc::Global;
@@ -178,5 +179,85 @@ fn families_and_tables_are_limited(rt: HostRuntime) -> Result<(), Fail> {
         refusal(&schema, &altered),
         Some(SchemaRefusal::TooManyFamilies)
     );
+    Ok(())
+}
+
+// The table projects/p/instances/i/tables/t, made by the fifth entry, with a stream that the sixth
+// began at 60 and that keeps changes for a day, and with the family f.
+const STREAM: &[u8] = b"\0\0\0\x01\
+\0\x1Fprojects/p/instances/i/tables/t\
+\0\0\0\0\0\0\0\x05\
+\0\0\0\0\0\0\0\x06\
+\0\0\0\0\0\0\0\x3C\
+\0\0\0\x14\x1D\xD7\x60\0\
+\0\x01\x01f\0";
+
+const NO_TABLES: &[u8] = b"\0\0\0\0";
+
+// The tables t and u without families, both made by the fifth entry.
+const SAME_INCARNATION: &[u8] = b"\0\0\0\x02\
+\0\x1Fprojects/p/instances/i/tables/t\
+\0\0\0\0\0\0\0\x05\0\0\0\0\0\0\0\0\0\0\0\0\0\0\0\0\0\0\0\0\0\0\0\0\0\0\
+\0\x1Fprojects/p/instances/i/tables/u\
+\0\0\0\0\0\0\0\x05\0\0\0\0\0\0\0\0\0\0\0\0\0\0\0\0\0\0\0\0\0\0\0\0\0\0";
+
+// The table t twice, made by the fifth and the sixth entry.
+const SAME_NAME: &[u8] = b"\0\0\0\x02\
+\0\x1Fprojects/p/instances/i/tables/t\
+\0\0\0\0\0\0\0\x05\0\0\0\0\0\0\0\0\0\0\0\0\0\0\0\0\0\0\0\0\0\0\0\0\0\0\
+\0\x1Fprojects/p/instances/i/tables/t\
+\0\0\0\0\0\0\0\x06\0\0\0\0\0\0\0\0\0\0\0\0\0\0\0\0\0\0\0\0\0\0\0\0\0\0";
+
+fn written_again(alloc: Global, bytes: &[u8]) -> Result<(Schema, Blob), Fail> {
+    let Ok(schema) = Schema::from_bytes(alloc, bytes) else {
+        return Err(Fail::from("refused"));
+    };
+    let written = schema.to_bytes(alloc)?;
+    Ok((schema, written))
+}
+
+#[test]
+fn a_table_is_read_and_written(rt: HostRuntime) -> Result<(), Fail> {
+    let alloc = rt.alloc();
+    let (schema, bytes) = written_again(alloc, STREAM)?;
+    assert_eq!(rt; bytes.bytes(), STREAM);
+    assert_eq!(rt; stream_of(&schema, 5)?, (6, 60, DAY));
+    let table = schema.table(&table_name(alloc, "t")?).ok_or("table")?;
+    assert_eq!(rt; table.incarnation, 5);
+    assert!(rt; has_family(table, &family(alloc, "f")?));
+    Ok(())
+}
+
+#[test]
+fn no_tables_are_four_bytes(rt: HostRuntime) -> Result<(), Fail> {
+    let alloc = rt.alloc();
+    let bytes = Schema::new(alloc).to_bytes(alloc)?;
+    assert_eq!(rt; bytes.bytes(), NO_TABLES);
+    let (schema, _bytes) = written_again(alloc, NO_TABLES)?;
+    assert_eq!(rt; schema.tables().len(), 0);
+    Ok(())
+}
+
+fn place_of_fault(alloc: Global, bytes: &[u8]) -> Option<u64> {
+    match Schema::from_bytes(alloc, bytes) {
+        Err(BatchRefusal::BadEntry { at }) => Some(at),
+        _ => None,
+    }
+}
+
+#[test]
+fn the_first_bad_field_is_named(rt: HostRuntime) -> Result<(), Fail> {
+    let alloc = rt.alloc();
+    // Cut within the count, within the bytes of the name, and before the rule of the family.
+    assert_eq!(rt; place_of_fault(alloc, &STREAM[..3]), Some(0));
+    assert_eq!(rt; place_of_fault(alloc, &STREAM[..20]), Some(6));
+    assert_eq!(rt; place_of_fault(alloc, &STREAM[..73]), Some(73));
+    // The second name, and the second incarnation.
+    assert_eq!(rt; place_of_fault(alloc, SAME_NAME), Some(73));
+    assert_eq!(rt; place_of_fault(alloc, SAME_INCARNATION), Some(104));
+    // A byte behind the last table.
+    let mut longer = Vec::from_slice(alloc, STREAM)?;
+    longer.push(0)?;
+    assert_eq!(rt; place_of_fault(alloc, &longer), Some(74));
     Ok(())
 }
