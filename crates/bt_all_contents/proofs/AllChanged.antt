@@ -19,15 +19,17 @@ use Rattle.bt_types.specs.Mutations.{applied, mutated}
 use Rattle.bt_row.specs.declared.cell_key.CellKey.{CellKey}
 use Rattle.bt_row.specs.declared.plan.Ending.TheVariants.{CarryOut, TakeBack}
 use Rattle.bt_row.specs.declared.plan.Plan.{Plan}
+use Rattle.bt_row.specs.declared.row.Row.{Row}
+use Rattle.bt_row.specs.Sound.{IsSound}
 use Rattle.bt_all_contents.specs.declared.row_change.RowChange.{RowChange}
-use Rattle.bt_all_contents.specs.AllContents.{AllContents, AreAllLawful, ArePlans, AreTables, CanSettleAll, RowAt, all_changed, all_placed, all_planned, all_settled, at_cmp, cells_there, is_wanted_by, is_wanted_there, mutations_at, one_changed, plan_at, placed_or, planned_or, rows_of, settled_or}
+use Rattle.bt_all_contents.specs.AllContents.{AllContents, AreAllLawful, AreNewRows, ArePlans, AreTables, CanSettleAll, RowAt, all_changed, all_placed, all_settled, at_cmp, cells_there, is_wanted_by, is_wanted_there, mutations_at, new_at, one_changed, plan_at, placed_or, planned_or, row_or, rows_of, settled_or}
 use Rattle.bt_contents.specs.Contents.{AreFilled, Contents, IsTable, put_row, row_at, with_entry}
-use Rattle.bt_row.specs.Keys.{AreSorted, cells_of, key_cmp, key_of, keyed}
+use Rattle.bt_row.specs.Keys.{AreSorted, Keyed, cells_of, key_cmp, key_of, keyed}
 use Rattle.bt_row.specs.Plans.{AreLawful, CanSettle, IsPlan, is_new_at, placed, value_at, values_after}
 use Rattle.bt_all_contents.proofs.AllRows.{both_equal, is_equal}
 use Rattle.bt_contents.proofs.Lists.{at_with, filled_with, same_lists, sorted_with}
 use Rattle.bt_row.proofs.Laws.{applied_values}
-use Rattle.bt_row.proofs.Plans.{has_places, planned_placed, taken_back}
+use Rattle.bt_row.proofs.Plans.{first_value, has_places, planned_placed, taken_back}
 
 -- ---- a row by the keys of its cells
 
@@ -161,13 +163,63 @@ rows_changed (c ∷ cs) all order a =
 pub changes_left : (cs : List RowChange) (old new : AllContents) → AreTables old → AreTables new → ((a : RowAt) (k : CellKey) → value_at (cells_there new a) k ≡ values_after (mutations_at cs a) (value_at (cells_there old a)) k) → new ≡ all_changed cs old
 changes_left cs old new tables also leaves = same_tables new (all_changed cs old) (in_order new also) (changes_order cs old (in_order old tables)) (λ a. row_left old new a (mutations_at cs a) tables also (leaves a) ∙ sym (rows_changed cs old (in_order old tables) a))
 
--- ---- plans of all rows
+-- ---- plans of all rows, and new rows
 
-module _ (plans : List (RowAt × Plan)) (old mid : AllContents) (are : ArePlans plans old) where
+-- entries that have nothing at any key are none
+nothing_there : (es : Keyed) → ((k : CellKey) → value_at es k ≡ None) → es ≡ []
+nothing_there [] none = refl
+nothing_there (e ∷ es) none = absurd (cc (sym (first_value e es) ∙ none e.0))
+
+module _ (plans : List (RowAt × Plan)) (rows : List (RowAt × Row)) (old : AllContents) (are : ArePlans plans old) (new_rows : AreNewRows rows old) where
+  -- what is there once the new rows are in
+  abbrev pub after_rows : RowAt → Keyed
+  after_rows a = row_or (new_at rows a) (cells_there old a)
+
+  -- where there is a plan no row is new
+  pub not_both : (a : RowAt) (p : Plan) → plan_at plans a ≡ Some p → new_at rows a ≡ None
+  not_both a p is = by (new_at rows a) (new_rows a) (rw is at (are a))
+    where
+      by : (o : Option Row) → IfSome o (λ r. IsSound r.cells.entries × (cells_there old a ≡ [])) → IsPlan p (cells_there old a) × (0 < length (cells_there old a)) → o ≡ None
+      by None is there = refl
+      by (Some r) is there = absurd (omega (arith, (rw is.1 at there.1)))
+
+  pub still_plans : (a : RowAt) → IfSome (plan_at plans a) (λ p. IsPlan p (after_rows a))
+  still_plans a = by (plan_at plans a) refl (are a)
+    where
+      by : (o : Option Plan) → plan_at plans a ≡ o → IfSome o (λ p. IsPlan p (cells_there old a) × (0 < length (cells_there old a))) → IfSome o (λ p. IsPlan p (after_rows a))
+      by None is held = tt
+      by (Some p) is held = rw (not_both a p is) held.0
+
+  module _ (mid : AllContents) (places : (a : RowAt) (k : CellKey) → value_at (cells_there mid a) k ≡ all_placed plans old a k) where
+    -- rows that are new are not there yet
+    pub new_still : AreNewRows rows mid
+    new_still a = by (new_at rows a) refl (new_rows a)
+      where
+        bare : cells_there old a ≡ [] → (o : Option Plan) → plan_at plans a ≡ o → IfSome o (λ p. IsPlan p (cells_there old a) × (0 < length (cells_there old a))) → cells_there mid a ≡ []
+        bare absent None is held = nothing_there (cells_there mid a) (λ k. places a k ∙ rw (is, absent) refl)
+        bare absent (Some p) is held = absurd (omega (arith, (rw absent at held.1)))
+
+        by : (o : Option Row) → new_at rows a ≡ o → IfSome o (λ r. IsSound r.cells.entries × (cells_there old a ≡ [])) → IfSome o (λ r. IsSound r.cells.entries × (cells_there mid a ≡ []))
+        by None is held = tt
+        by (Some r) is held = (held.0, bare held.1 (plan_at plans a) refl (are a))
+
+    -- the rows have their places, and the new ones are in
+    pub places_with_rows : (new : AllContents) → ((a : RowAt) → cells_there new a ≡ row_or (new_at rows a) (cells_there mid a)) → (a : RowAt) (k : CellKey) → value_at (cells_there new a) k ≡ placed_or (plan_at plans a) (after_rows a) k
+    places_with_rows new put a k = ap (λ (es : Keyed). value_at es k) (put a) ∙ by (plan_at plans a) refl
+      where
+        no_plan : (o : Option Row) → plan_at plans a ≡ None → value_at (row_or o (cells_there mid a)) k ≡ value_at (row_or o (cells_there old a)) k
+        no_plan None is = places a k ∙ rw is refl
+        no_plan (Some r) is = refl
+
+        by : (o : Option Plan) → plan_at plans a ≡ o → value_at (row_or (new_at rows a) (cells_there mid a)) k ≡ placed_or o (after_rows a) k
+        by None is = no_plan (new_at rows a) is
+        by (Some p) is = rw (not_both a p is) (places a k ∙ rw is refl)
+
+module _ (plans : List (RowAt × Plan)) (was : RowAt → Keyed) (mid : AllContents) (are : (a : RowAt) → IfSome (plan_at plans a) (λ p. IsPlan p (was a))) where
   pub all_lawful : AreAllLawful plans
   all_lawful a = by (plan_at plans a) (are a)
     where
-      by : (o : Option Plan) → IfSome o (λ p. IsPlan p (cells_there old a)) → IfSome o (λ p. AreLawful p.outcomes.entries)
+      by : (o : Option Plan) → IfSome o (λ p. IsPlan p (was a)) → IfSome o (λ p. AreLawful p.outcomes.entries)
       by None is = tt
       by (Some p) is = is.lawful
 
@@ -178,26 +230,34 @@ module _ (plans : List (RowAt × Plan)) (old mid : AllContents) (are : ArePlans 
       by None = tt
       by (Some p) = tt
 
-  module _ (places : (a : RowAt) (k : CellKey) → value_at (cells_there mid a) k ≡ all_placed plans old a k) where
+  module _ (places : (a : RowAt) (k : CellKey) → value_at (cells_there mid a) k ≡ placed_or (plan_at plans a) (was a) k) where
     pub can_carry_out : CanSettleAll CarryOut plans mid
     can_carry_out a = by (plan_at plans a) (are a) (places a)
       where
-        by : (o : Option Plan) → IfSome o (λ p. IsPlan p (cells_there old a)) → ((k : CellKey) → value_at (cells_there mid a) k ≡ placed_or o (cells_there old a) k) → IfSome o (λ p. CanSettle CarryOut p (cells_there mid a))
+        by : (o : Option Plan) → IfSome o (λ p. IsPlan p (was a)) → ((k : CellKey) → value_at (cells_there mid a) k ≡ placed_or o (was a) k) → IfSome o (λ p. CanSettle CarryOut p (cells_there mid a))
         by None is placed = tt
-        by (Some p) is placed = has_places p (cells_there old a) (cells_there mid a) placed is.fresh
+        by (Some p) is placed = has_places p (was a) (cells_there mid a) placed is.fresh
 
     -- carried out, the plans leave what was planned
-    pub carried_out : (a : RowAt) (k : CellKey) → all_settled CarryOut plans mid a k ≡ all_planned plans old a k
+    pub carried_out : (a : RowAt) (k : CellKey) → all_settled CarryOut plans mid a k ≡ planned_or (plan_at plans a) (was a) k
     carried_out a k = by (plan_at plans a) (places a)
       where
-        by : (o : Option Plan) → ((k : CellKey) → value_at (cells_there mid a) k ≡ placed_or o (cells_there old a) k) → settled_or CarryOut o (cells_there mid a) k ≡ planned_or o (cells_there old a) k
+        by : (o : Option Plan) → ((k : CellKey) → value_at (cells_there mid a) k ≡ placed_or o (was a) k) → settled_or CarryOut o (cells_there mid a) k ≡ planned_or o (was a) k
         by None placed = placed k
-        by (Some p) placed = planned_placed p (cells_there old a) (cells_there mid a) placed k
+        by (Some p) placed = planned_placed p (was a) (cells_there mid a) placed k
 
   -- taken back, they leave what was there
-  pub all_taken_back : ((a : RowAt) (k : CellKey) → is_wanted_there plans a k ≡ false → value_at (cells_there mid a) k ≡ value_at (cells_there old a) k) → (a : RowAt) (k : CellKey) → all_settled TakeBack plans mid a k ≡ value_at (cells_there old a) k
+  pub all_taken_back : ((a : RowAt) (k : CellKey) → is_wanted_there plans a k ≡ false → value_at (cells_there mid a) k ≡ value_at (was a) k) → (a : RowAt) (k : CellKey) → all_settled TakeBack plans mid a k ≡ value_at (was a) k
   all_taken_back others a k = by (plan_at plans a) (are a) (others a)
     where
-      by : (o : Option Plan) → IfSome o (λ p. IsPlan p (cells_there old a)) → ((k : CellKey) → is_wanted_by o k ≡ false → value_at (cells_there mid a) k ≡ value_at (cells_there old a) k) → settled_or TakeBack o (cells_there mid a) k ≡ value_at (cells_there old a) k
+      by : (o : Option Plan) → IfSome o (λ p. IsPlan p (was a)) → ((k : CellKey) → is_wanted_by o k ≡ false → value_at (cells_there mid a) k ≡ value_at (was a) k) → settled_or TakeBack o (cells_there mid a) k ≡ value_at (was a) k
       by None is stays = stays k refl
-      by (Some p) is stays = taken_back p.outcomes.entries (value_at (cells_there old a)) (value_at (cells_there mid a)) is.fresh stays (λ q. cond (is_new_at p.outcomes.entries q) None (value_at (cells_there mid a) q)) (λ q. refl) k
+      by (Some p) is stays = taken_back p.outcomes.entries (value_at (was a)) (value_at (cells_there mid a)) is.fresh stays (λ q. cond (is_new_at p.outcomes.entries q) None (value_at (cells_there mid a) q)) (λ q. refl) k
+
+-- plans for rows that are there are plans for them
+pub plans_there : (plans : List (RowAt × Plan)) (all : AllContents) → ArePlans plans all → (a : RowAt) → IfSome (plan_at plans a) (λ p. IsPlan p (cells_there all a))
+plans_there plans all are a = by (plan_at plans a) (are a)
+  where
+    by : (o : Option Plan) → IfSome o (λ p. IsPlan p (cells_there all a) × (0 < length (cells_there all a))) → IfSome o (λ p. IsPlan p (cells_there all a))
+    by None is = tt
+    by (Some p) is = is.0

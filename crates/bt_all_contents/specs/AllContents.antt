@@ -1,5 +1,5 @@
 -- The rows of all tables, and changes of rows.
-use Rattle.std.specs.Prelude.{◌<◌, ℕ, Bool, false, List, [], ◌∷◌, ◌++◌, length, All, Option, None, Some, IfSome, if◌then◌else◌}
+use Rattle.std.specs.Prelude.{◌≡◌, ◌<◌, ℕ, Bool, false, List, [], ◌∷◌, ◌++◌, length, All, Option, None, Some, IfSome, if◌then◌else◌}
 use Rattle.std.specs.List.{AllByRecursion}
 use Rattle.std.specs.List.Sorted.{IsStrictlySortedBy}
 use Rattle.std.specs.Ordering.{nat_cmp, ordering_then}
@@ -11,9 +11,10 @@ use Rattle.bt_types.specs.declared.mutation.Mutation.{Mutation}
 use Rattle.bt_row.specs.declared.cell_key.CellKey.{CellKey}
 use Rattle.bt_row.specs.declared.plan.Ending.{Ending}
 use Rattle.bt_row.specs.declared.plan.Plan.{Plan}
+use Rattle.bt_row.specs.declared.row.Row.{Row}
 use Rattle.bt_all_contents.specs.declared.row_change.RowChange.{RowChange}
 use Rattle.bt_contents.specs.Contents.{Contents, IsTable, keyed_at, list_at, put_row, with_entry}
-use Rattle.bt_row.specs.Sound.{HaveShort}
+use Rattle.bt_row.specs.Sound.{HaveShort, IsSound}
 use Rattle.bt_row.specs.Keys.{Keyed}
 use Rattle.bt_row.specs.Plans.{AreLawful, CanSettle, IsPlan, Values, is_wanted_at, placed, planned, settled, value_at}
 
@@ -78,8 +79,18 @@ abbrev pub planned_or : Option Plan → Keyed → Values
 planned_or None es k = value_at es k
 planned_or (Some p) es k = planned p es k
 
-abbrev pub all_planned : List (RowAt × Plan) → AllContents → RowAt → Values
-all_planned plans all a = planned_or (plan_at plans a) (cells_there all a)
+-- the row that is to be new there
+abbrev pub new_at : List (RowAt × Row) → RowAt → Option Row
+new_at rows a = lookup (is_at (at_cmp a)) rows
+
+-- its values, or else those that were there
+abbrev pub row_or : Option Row → Keyed → Keyed
+row_or None es = es
+row_or (Some r) es = r.cells.entries
+
+-- what plans and new rows leave of all rows
+abbrev pub all_planned : List (RowAt × Plan) → List (RowAt × Row) → AllContents → RowAt → Values
+all_planned plans rows all a = planned_or (plan_at plans a) (row_or (new_at rows a) (cells_there all a))
 
 -- the same once places were made
 abbrev pub placed_or : Option Plan → Keyed → Values
@@ -105,9 +116,13 @@ settled_or ending (Some p) es k = settled ending p es k
 abbrev pub all_settled : Ending → List (RowAt × Plan) → AllContents → RowAt → Values
 all_settled ending plans all a = settled_or ending (plan_at plans a) (cells_there all a)
 
--- each plan is one for its row
+-- each plan is one for its row, which is there
 abbrev pub ArePlans : List (RowAt × Plan) → AllContents → Type 0
-ArePlans plans all = (a : RowAt) → IfSome (plan_at plans a) (λ p. IsPlan p (cells_there all a))
+ArePlans plans all = (a : RowAt) → IfSome (plan_at plans a) (λ p. IsPlan p (cells_there all a) × (0 < length (cells_there all a)))
+
+-- each new row is sound, and not there yet
+abbrev pub AreNewRows : List (RowAt × Row) → AllContents → Type 0
+AreNewRows rows all = (a : RowAt) → IfSome (new_at rows a) (λ r. IsSound r.cells.entries × (cells_there all a ≡ []))
 
 abbrev pub AreAllLawful : List (RowAt × Plan) → Type 0
 AreAllLawful plans = (a : RowAt) → IfSome (plan_at plans a) (λ p. AreLawful p.outcomes.entries)

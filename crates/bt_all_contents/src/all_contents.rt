@@ -1,10 +1,14 @@
 //! The rows of all tables.
-ghost use Rattle.std.specs.Prelude.{◌≡◌, [], OnOk, OnErr, if◌then◌else◌, option_map, unwrap_or};
-ghost use Rattle.bt_all_contents.specs.AllContents.{AreShortChanges, AreTables, all_changed, one_changed, rows_of, without_rows};
+ghost use Rattle.std.specs.Prelude.{◌≡◌, [], false, OnOk, OnErr, if◌then◌else◌, option_map, unwrap_or};
+ghost use Rattle.bt_all_contents.specs.AllContents.{AreNewRows, ArePlans, AreShortChanges, AreTables, RowAt, all_changed, cells_there, is_wanted_there, new_at, one_changed, placed_or, plan_at, row_or, rows_of, without_rows};
 ghost use Rattle.bt_row.specs.Sound.{HaveShort};
+ghost use Rattle.bt_row.specs.declared.cell_key.CellKey.{CellKey};
+ghost use Rattle.bt_row.specs.Plans.{value_at};
 
 use crate::RowChangeList;
-use crate::changes::{make_all, plan_all, settle_all};
+use crate::changes::{Plans, make_all, settle_all};
+use crate::new_rows::{NewRows, put_all};
+use crate::planned::{Planned, plan_all};
 use crate::row_change::RowChange;
 use bt_base::OutOfMemory;
 use bt_contents::Contents;
@@ -74,12 +78,31 @@ impl AllContents {
         ensures ok { OnOk result (self.new ≡ all_changed changes self.old) }
         ensures err { OnErr result (self.new ≡ self.old) }
     {
-        let plans = plan_all(&self.tables, alloc, changes)?;
-        if make_all(&mut self.tables, alloc, &plans).is_err() {
+        let Planned { plans, new_rows } = plan_all(&self.tables, alloc, changes)?;
+        if prepare(&mut self.tables, alloc, &plans, new_rows).is_err() {
             settle_all(&mut self.tables, plans, Ending::TakeBack);
             return Err(OutOfMemory);
         }
         settle_all(&mut self.tables, plans, Ending::CarryOut);
         Ok(())
     }
+}
+
+// Makes the cells that the plans want, and puts the new rows in, which alone takes memory.
+fn prepare(
+    tables: &mut BTreeMap<u64, Contents>,
+    alloc: Global,
+    plans: &Plans,
+    new_rows: NewRows,
+) -> Result<(), OutOfMemory>
+    requires tables { AreTables tables.old.entries }
+    requires plans { ArePlans plans.now.entries tables.old.entries }
+    requires rows { AreNewRows new_rows.entries tables.old.entries }
+    ensures tables { AreTables tables.new.entries }
+    ensures others { OnErr result ((a : RowAt) (k : CellKey) → is_wanted_there plans.now.entries a k ≡ false → value_at (cells_there tables.new.entries a) k ≡ value_at (cells_there tables.old.entries a) k) }
+    ensures values { OnOk result ((a : RowAt) (k : CellKey) → value_at (cells_there tables.new.entries a) k ≡ placed_or (plan_at plans.now.entries a) (row_or (new_at new_rows.entries a) (cells_there tables.old.entries a)) k) }
+{
+    make_all(tables, alloc, plans)?;
+    put_all(tables, alloc, new_rows)?;
+    Ok(())
 }

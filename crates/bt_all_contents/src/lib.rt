@@ -3,6 +3,8 @@
 
 mod all_contents;
 mod changes;
+mod new_rows;
+mod planned;
 mod row_change;
 
 pub use all_contents::AllContents;

@@ -1,12 +1,13 @@
 -- The rows of a table as they are held, and as they are seen.
 use Rattle.std.specs.Prelude.{All, IsTrue, ◌↔◌}
-use Rattle.std.proofs.Common.{◌≡◌, ◌<◌, ℕ, Bool, true, false, List, [], ◌∷◌, Option, Some, None, cond, length, refl, sym, ap, ◌∙◌, arith, subst}
-use Rattle.std.specs.Prelude.{bytes_eq, IfSome, IsSome, filter, unwrap_or, option_map}
+use Rattle.std.proofs.Common.{◌≡◌, ◌<◌, ℕ, Bor, Bool, true, false, List, [], ◌∷◌, Option, Some, None, cond, length, refl, sym, ap, ◌∙◌, arith, subst}
+use Rattle.std.specs.Prelude.{bytes_eq, IfNone, IfSome, IsSome, filter, unwrap_or, option_map}
 use Rattle.std.specs.Ordering.{is_eq, nat_cmp}
 use Rattle.std.specs.Cmp.Lexicographic.{slice_cmp}
 use Rattle.std.specs.List.{IsAmong, list_any}
 use Rattle.std.specs.List.Sorted.{IsStrictlySortedBy}
 use Rattle.std.specs.Map.{keys_of, lookup, remove_entry, set_value, values_of}
+use Rattle.std.specs.Option.{option_copied}
 use Rattle.std.specs.BTreeMap.{insert_entry}
 use Rattle.std.proofs.lemmas.Cmp.{nat_list_cmp_total, tied_itself}
 use Rattle.std.proofs.lemmas.Map.Lookups.{exact_bytes}
@@ -15,11 +16,9 @@ use Rattle.std.proofs.lemmas.Map.Made.{keys_of-map_values, lookup-map_values}
 use Rattle.std.proofs.lemmas.Map.Steps.{set_value_same}
 use Rattle.std.proofs.lemmas.Map.Views.{All-map-remove_entry, All-values-insert_entry, All-values-set_value}
 use Rattle.bt_types.specs.declared.cell.Cell.{Cell}
-use Rattle.bt_types.specs.declared.mutation.Mutation.{Mutation}
 use Rattle.bt_types.specs.Cells.{IsRow}
-use Rattle.bt_types.specs.Mutations.{applied}
 use Rattle.bt_row.specs.declared.row.Row.{Row}
-use Rattle.bt_contents.specs.Contents.{AreHeld, Contents, IsTable, is_used, key_is, keyed_at, keys_with, put_row, row_at, seen, with_row}
+use Rattle.bt_contents.specs.Contents.{AreHeld, Contents, IsTable, is_used, key_is, keyed_at, keys_with, row_at, seen, with_row}
 use Rattle.bt_row.specs.Sound.{AreShort, IsHeld, IsSound}
 use Rattle.bt_row.specs.declared.cell_key.CellKey.{CellKey}
 use Rattle.bt_row.specs.Extents.{AreTimed, IsTimed}
@@ -46,7 +45,7 @@ pub filled_of : {A : Type 0} (b : Bool) (xs : List A) → IsTrue b ↔ (xs ≡ [
 filled_of b [] tells not_empty = let empty : b ≡ true = tells.1 refl in cc
 filled_of b (x ∷ xs) tells not_empty = omega arith
 
-cells_filled : (es : Keyed) → 0 < length es → 0 < length (cells_of es)
+pub cells_filled : (es : Keyed) → 0 < length es → 0 < length (cells_of es)
 cells_filled [] filled = filled
 cells_filled (e ∷ es) filled = omega arith
 
@@ -110,6 +109,10 @@ module _ (k : List ℕ) (rows : List (List ℕ × Row)) where
   pub row_absent : lookup (key_is k) rows ≡ None → row_at k (seen rows) ≡ []
   row_absent absent = ap (λ o. unwrap_or o []) (absent_cells absent)
 
+  -- a row that has cells is there
+  pub none_there : lookup (key_is k) rows ≡ None → 0 < length (row_at k (seen rows)) → ⊥
+  none_there absent filled = let bare : row_at k (seen rows) ≡ [] = row_absent absent in absurd (omega (arith, subst (λ (cs : List Cell). 0 < length cs) bare filled))
+
   -- a row that was there has cells
   pub over_row : (r new : Row) → IsStrictlySortedBy (slice_cmp nat_cmp) (keys_of rows) → lookup (key_is k) rows ≡ Some r → 0 < length new.cells.entries → seen (set_value (key_is k) rows new) ≡ with_row k (cells_at new) (seen rows)
   over_row r new sorted found filled =
@@ -122,15 +125,15 @@ module _ (k : List ℕ) (rows : List (List ℕ × Row)) where
   gone_row new bare =
       ap seen (remove_set (key_is k) rows new) ∙ mapped_remove cells_at (key_is k) rows ∙ ap (λ cs. with_row k cs (seen rows)) (sym (ap cells_of bare))
 
-  -- a row that was not there has cells
+  -- a row with cells is put where its key is
   pub new_row : (new : Row) → 0 < length new.cells.entries → seen (insert_entry (slice_cmp nat_cmp) rows k new) ≡ with_row k (cells_at new) (seen rows)
   new_row new filled = mapped_insert cells_at (slice_cmp nat_cmp) rows k new ∙ sym (with_filled nat_list_cmp_total k (cells_at new) (seen rows) (cells_filled new.cells.entries filled))
 
-  -- a row that was not there is not there
-  pub no_row : (new : Row) → lookup (key_is k) rows ≡ None → new.cells.entries ≡ [] → seen rows ≡ with_row k (cells_at new) (seen rows)
-  no_row new absent bare = sym (remove_absent (key_is k) (seen rows) (absent_cells absent)) ∙ ap (λ cs. with_row k cs (seen rows)) (sym (ap cells_of bare))
+  -- a row that is taken out is not there
+  pub removed_row : seen (remove_entry (key_is k) rows) ≡ with_row k [] (seen rows)
+  removed_row = mapped_remove cells_at (key_is k) rows
 
-  -- so is a row that was not there, where nothing was put
+  -- a row that was not there is not there, where nothing was put
   pub absent_itself : lookup (key_is k) rows ≡ None → seen rows ≡ with_row k (row_at k (seen rows)) (seen rows)
   absent_itself absent = sym (remove_absent (key_is k) (seen rows) (absent_cells absent)) ∙ ap (λ cs. with_row k cs (seen rows)) (sym (row_absent absent))
 
@@ -139,34 +142,30 @@ module _ (k : List ℕ) (rows : List (List ℕ × Row)) where
   same_row r new found same =
       mapped_set cells_at (key_is k) rows new ∙ ap (λ es. set_value (key_is k) (seen rows) (cells_of es)) same ∙ set_value_same (key_is k) (seen rows) (cells_at r) (found_cells r found)
 
-  -- the mutations of a row that was there, or was not there
-  pub put_found : (ms : List Mutation) (r new : Row) → lookup (key_is k) rows ≡ Some r → cells_at new ≡ applied ms (cells_at r) → with_row k (cells_at new) (seen rows) ≡ put_row k ms (seen rows)
-  put_found ms r new found leaves = ap (λ cs. with_row k cs (seen rows)) (leaves ∙ ap (applied ms) (sym (row_found r found)))
-
-  pub put_absent : (ms : List Mutation) (new : Row) → lookup (key_is k) rows ≡ None → cells_at new ≡ applied ms [] → with_row k (cells_at new) (seen rows) ≡ put_row k ms (seen rows)
-  put_absent ms new absent leaves = ap (λ cs. with_row k cs (seen rows)) (leaves ∙ ap (applied ms) (sym (row_absent absent)))
-
   pub held_over : (new : Row) → AreHeld rows → IsSound new.cells.entries → 0 < length new.cells.entries → AreHeld (set_value (key_is k) rows new)
   held_over new held sound filled = record {
     sorted = rw (keys-set_value (key_is k) rows new) held.sorted;
     each = All-values-set_value (key_is k) IsHeld rows new held.each (sound, filled);
   }
 
-  pub held_gone : (new : Row) → AreHeld rows → AreHeld (remove_entry (key_is k) (set_value (key_is k) rows new))
-  held_gone new held = rw (remove_set (key_is k) rows new) (record {
+  pub held_removed : AreHeld rows → AreHeld (remove_entry (key_is k) rows)
+  held_removed held = record {
     sorted = sorted_removed (slice_cmp nat_cmp) (key_is k) rows held.sorted;
     each = All-map-remove_entry (key_is k) (λ e. e.1) IsHeld rows held.each;
-  })
+  }
 
-  pub held_new : (new : Row) → AreHeld rows → IsSound new.cells.entries → 0 < length new.cells.entries → AreHeld (insert_entry (slice_cmp nat_cmp) rows k new)
-  held_new new held sound filled = record {
+  pub held_gone : (new : Row) → AreHeld rows → AreHeld (remove_entry (key_is k) (set_value (key_is k) rows new))
+  held_gone new held = rw (remove_set (key_is k) rows new) (held_removed held)
+
+  pub held_new : (new : Row) → AreHeld rows → IsHeld new → AreHeld (insert_entry (slice_cmp nat_cmp) rows k new)
+  held_new new held row = record {
     sorted = sorted_put nat_list_cmp_total k new rows held.sorted;
-    each = All-values-insert_entry (slice_cmp nat_cmp) k new IsHeld rows held.each (sound, filled);
+    each = All-values-insert_entry (slice_cmp nat_cmp) k new IsHeld rows held.each row;
   }
 
 -- ---- values by the keys of cells
 
-keyed_cells : (es : Keyed) → keyed (cells_of es) ≡ es
+pub keyed_cells : (es : Keyed) → keyed (cells_of es) ≡ es
 keyed_cells [] = refl
 keyed_cells (e ∷ es) = ap (λ (es : Keyed). e ∷ es) (keyed_cells es)
 
@@ -176,6 +175,15 @@ module _ (k : List ℕ) (rows : List (List ℕ × Row)) where
 
   pub keyed_absent : lookup (key_is k) rows ≡ None → keyed_at k (seen rows) ≡ []
   keyed_absent absent = ap keyed (row_absent k rows absent)
+
+  -- a row that was looked for, where it is there
+  pub got_row : (o : Option (Bor Row)) → AreHeld rows → option_copied o ≡ lookup (key_is k) rows → IfSome o (λ r. IsAmong (values_of rows) r.now) → IfSome o (λ r. IsHeld r.now × (keyed_at k (seen rows) ≡ r.now.cells.entries))
+  got_row None held value member = tt
+  got_row (Some r) held value member = (found_held rows r.now held member, keyed_found r.now (sym value))
+
+  pub got_none : (o : Option (Bor Row)) → option_copied o ≡ lookup (key_is k) rows → IfNone o (keyed_at k (seen rows) ≡ [])
+  got_none None value = keyed_absent (sym value)
+  got_none (Some r) value = tt
 
   module _ (sorted : IsStrictlySortedBy (slice_cmp nat_cmp) (keys_of rows)) (new : Row) (after : Contents) (is : after ≡ with_row k (cells_of new.cells.entries) (seen rows)) where
     row_after : row_at k after ≡ cells_of new.cells.entries

@@ -1,20 +1,21 @@
 //! The rows of a table.
-ghost use Rattle.std.specs.Prelude.{◌≡◌, ◌↔◌, [], IfOk, IfSome, IsTrue, OnOk, OnErr, bytes_eq, filter, length, ◌<◌};
+ghost use Rattle.std.specs.Prelude.{◌≡◌, ◌↔◌, [], IfNone, IfOk, IfSome, IsTrue, OnOk, OnErr, bytes_eq, filter, length, ◌<◌};
 ghost use Rattle.std.specs.List.{list_any};
 ghost use Rattle.std.specs.Map.{keys_of, values_of};
 ghost use Rattle.bt_types.specs.declared.mutation.Mutation.TheVariants as mutations;
-ghost use Rattle.bt_contents.specs.Contents.{AreHeld, IsTable, is_used, keyed_at, keys_with, put_row, row_at, seen, with_row};
-ghost use Rattle.bt_row.specs.Sound.{HaveShort};
+ghost use Rattle.bt_contents.specs.Contents.{AreHeld, IsTable, is_used, keyed_at, keys_with, row_at, seen, with_row};
+ghost use Rattle.bt_row.specs.Sound.{IsHeld};
+ghost use Rattle.bt_row.specs.Keys.{cells_of};
 ghost use Rattle.bt_row.specs.Extents.{Covers, is_covered};
 ghost use Rattle.bt_row.specs.declared.cell_key.CellKey.{CellKey};
-ghost use Rattle.bt_row.specs.Plans.{AreLawful, CanSettle, IsPlan, placed, planned, settled, value_at, values_after};
+ghost use Rattle.bt_row.specs.Plans.{AreLawful, CanSettle, IsPlan, placed, settled, value_at};
 ghost use Rattle.bt_contents.specs.Ranges.{rows_within, unread};
 
 use crate::contents_rows::ContentsRows;
 use crate::ranges::rows_within;
 use bt_base::{OutOfMemory, Plain};
 use bt_row::{Ending, Extent, Plan, Row};
-use bt_types::{FamilyName, KeyList, MutationList, RowKey, RowRange};
+use bt_types::{FamilyName, KeyList, RowKey, RowRange};
 use std::alloc::Global;
 use std::collections::BTreeMap;
 use std::collections::btree_map::Range;
@@ -97,43 +98,35 @@ impl Contents {
         }
     }
 
-    /// Makes the changes of a list in order in the row at a key, which may be new, all or none. It
-    /// takes a search for the row, and one for each cell that is set or removed. A row whose last
-    /// cell goes is gone.
-    pub fn change(
-        &mut self,
-        alloc: Global,
-        key: RowKey,
-        mutations: MutationList,
-    ) -> Result<(), OutOfMemory>
-        requires short { HaveShort mutations }
-        ensures ok { OnOk result (self.new ≡ put_row key mutations self.old) }
-        ensures err { OnErr result (self.new ≡ self.old) }
+    /// The row at a key, which is searched for; `None` where it is not there.
+    pub fn get(&self, key: &RowKey) -> Option<&Row>
+        ensures found { IfSome result (λ row. IsHeld row.now × (keyed_at key.now self.now ≡ row.now.cells.entries)) }
+        ensures absent { IfNone result (keyed_at key.now self.now ≡ []) }
     {
-        change_row(&mut self.rows, alloc, key, mutations)
+        self.rows.get(key)
+    }
+
+    /// Puts a row with cells at a key, in the place of one that is there.
+    pub fn put(&mut self, key: RowKey, row: Row) -> Result<(), OutOfMemory>
+        requires { IsHeld row }
+        ensures ok { OnOk result (self.new ≡ with_row key (cells_of row.cells.entries) self.old) }
+        ensures err { OnErr result (self.new ≡ self.old) }
+        ensures table { IsTable self.new }
+    {
+        self.rows.insert(key, row)?;
+        Ok(())
+    }
+
+    /// Takes out the row at a key, which takes no memory.
+    pub fn remove(&mut self, key: &RowKey)
+        ensures row { self.new ≡ with_row key.now [] self.old }
+        ensures table { IsTable self.new }
+    {
+        self.rows.remove(key);
     }
 }
 
 impl Contents {
-    /// Plans further mutations of the row at a key.
-    pub fn plan(
-        &self,
-        alloc: Global,
-        plan: &mut Plan,
-        key: &RowKey,
-        mutations: MutationList,
-    ) -> Result<(), OutOfMemory>
-        requires short { HaveShort mutations }
-        requires plan { IsPlan plan.old (keyed_at key.now self.now) }
-        ensures ok { OnOk result ((k : CellKey) → planned plan.new (keyed_at key.now self.now) k ≡ values_after mutations (planned plan.old (keyed_at key.now self.now)) k) }
-        ensures plan { OnOk result (IsPlan plan.new (keyed_at key.now self.now)) }
-    {
-        match self.rows.get(key) {
-            Some(row) => plan.add_all(alloc, &row.cells, mutations),
-            None => plan.add_all(alloc, &BTreeMap::new(alloc), mutations),
-        }
-    }
-
     /// Makes the cells that a plan of the row at a key wants, without bytes yet, all or none.
     pub fn make_places(
         &mut self,
@@ -141,7 +134,8 @@ impl Contents {
         key: &RowKey,
         plan: &Plan,
     ) -> Result<(), OutOfMemory>
-        requires { IsPlan plan.now (keyed_at key.now self.old) }
+        requires there { 0 < length (row_at key.now self.old) }
+        requires plan { IsPlan plan.now (keyed_at key.now self.old) }
         ensures row { OnOk result (self.new ≡ with_row key.now (row_at key.now self.new) self.old) }
         ensures values { OnOk result ((k : CellKey) → value_at (keyed_at key.now self.new) k ≡ placed plan.now.outcomes.entries (value_at (keyed_at key.now self.old)) k) }
         ensures filled { OnOk result (0 < length self.old → 0 < length self.new) }
@@ -170,6 +164,7 @@ fn make_row_places(
     plan: &Plan,
 ) -> Result<(), OutOfMemory>
     requires held { AreHeld rows.old.entries }
+    requires there { 0 < length (row_at key.now (seen rows.old.entries)) }
     requires plan { IsPlan plan.now (keyed_at key.now (seen rows.old.entries)) }
     ensures row { OnOk result (seen rows.new.entries ≡ with_row key.now (row_at key.now (seen rows.new.entries)) (seen rows.old.entries)) }
     ensures values { OnOk result ((k : CellKey) → value_at (keyed_at key.now (seen rows.new.entries)) k ≡ placed plan.now.outcomes.entries (value_at (keyed_at key.now (seen rows.old.entries))) k) }
@@ -182,15 +177,7 @@ fn make_row_places(
             row.make_places(alloc, plan)?;
             Ok(())
         }
-        None => {
-            let mut row = Row::new(alloc);
-            row.make_places(alloc, plan)?;
-            if row.is_empty() {
-                return Ok(());
-            }
-            rows.insert(key.copy(alloc)?, row)?;
-            Ok(())
-        }
+        None => unreachable!(),
     }
 }
 
@@ -208,39 +195,6 @@ fn settle_row(rows: &mut BTreeMap<RowKey, Row>, key: &RowKey, plan: Plan, ending
     row.settle(plan, ending);
     if row.is_empty() {
         rows.remove(key);
-    }
-}
-
-fn change_row(
-    rows: &mut BTreeMap<RowKey, Row>,
-    alloc: Global,
-    key: RowKey,
-    mutations: MutationList,
-) -> Result<(), OutOfMemory>
-    requires held { AreHeld rows.old.entries }
-    requires short { HaveShort mutations }
-    ensures ok { OnOk result (seen rows.new.entries ≡ put_row key mutations (seen rows.old.entries)) }
-    ensures err { OnErr result (seen rows.new.entries ≡ seen rows.old.entries) }
-    ensures held { AreHeld rows.new.entries }
-{
-    match rows.get_mut(&key) {
-        Some(row) => {
-            row.change(alloc, mutations)?;
-            if !row.is_empty() {
-                return Ok(());
-            }
-            rows.remove(&key);
-            Ok(())
-        }
-        None => {
-            let mut row = Row::new(alloc);
-            row.change(alloc, mutations)?;
-            if row.is_empty() {
-                return Ok(());
-            }
-            rows.insert(key, row)?;
-            Ok(())
-        }
     }
 }
 

@@ -3,6 +3,7 @@ ghost use Rattle.bt_row.specs.Sound.{HaveShort};
 
 use crate::Contents;
 use bt_base::Blob;
+use bt_row::Row;
 use bt_types::{
     Cell, FamilyName, KeyList, Micros, Mutation, MutationList, NoReads, Qualifier, RowKey,
     RowRange, Rows, SourceFault,
@@ -70,7 +71,18 @@ fn delete_row(alloc: Global) -> Result<MutationList, Fail>
     Ok(mutations)
 }
 
-fn change(
+// The mutations of the one list, and then those of the other.
+fn then(mut first: MutationList, second: MutationList) -> Result<MutationList, Fail>
+    requires first { HaveShort first }
+    requires second { HaveShort second }
+    ensures { IfOk result (λ list. HaveShort list) }
+{
+    first.append(second)?;
+    Ok(first)
+}
+
+// The row that the mutations make is put at the key, where it has cells.
+fn put(
     alloc: Global,
     contents: &mut Contents,
     key: &[u8],
@@ -79,30 +91,26 @@ fn change(
     requires { HaveShort mutations }
 {
     let key = RowKey::new(alloc, key)?.ok_or("key")?;
-    contents.change(alloc, key, mutations)?;
+    let mut row = Row::new(alloc);
+    row.apply(alloc, mutations)?;
+    if !row.is_empty() {
+        contents.put(key, row)?;
+    }
     Ok(())
-}
-
-fn put(
-    alloc: Global,
-    contents: &mut Contents,
-    key: &[u8],
-    column: (&str, u8),
-    at: i64,
-    value: u8,
-) -> Result<(), Fail> {
-    let mutations = set(alloc, column, at, value)?;
-    change(alloc, contents, key, mutations)
 }
 
 // Four rows, of which the second one has two cells.
 fn four_rows(alloc: Global) -> Result<Contents, Fail> {
     let mut contents = Contents::new(alloc);
-    put(alloc, &mut contents, b"d", ("f", b'q'), 1000, b'5')?;
-    put(alloc, &mut contents, b"b", ("f", b'q'), 1000, b'3')?;
-    put(alloc, &mut contents, b"b", ("f", b'q'), 2000, b'2')?;
-    put(alloc, &mut contents, b"a", ("f", b'q'), 1000, b'1')?;
-    put(alloc, &mut contents, b"c", ("f", b'q'), 1000, b'4')?;
+    let last = set(alloc, ("f", b'q'), 1000, b'5')?;
+    put(alloc, &mut contents, b"d", last)?;
+    let older = set(alloc, ("f", b'q'), 1000, b'3')?;
+    let newer = set(alloc, ("f", b'q'), 2000, b'2')?;
+    put(alloc, &mut contents, b"b", then(older, newer)?)?;
+    let first = set(alloc, ("f", b'q'), 1000, b'1')?;
+    put(alloc, &mut contents, b"a", first)?;
+    let third = set(alloc, ("f", b'q'), 1000, b'4')?;
+    put(alloc, &mut contents, b"c", third)?;
     Ok(contents)
 }
 
@@ -221,8 +229,16 @@ fn keys_are(keys: &KeyList, bytes: &[u8]) -> bool {
 fn keys_are_found_by_range_and_family(rt: HostRuntime) -> Result<(), Fail> {
     let alloc = rt.alloc();
     let mut contents = four_rows(alloc)?;
-    put(alloc, &mut contents, b"c", ("g", b'q'), 1000, b'6')?;
-    put(alloc, &mut contents, b"a", ("g", b'q'), 1000, b'7')?;
+    let third = then(
+        set(alloc, ("f", b'q'), 1000, b'4')?,
+        set(alloc, ("g", b'q'), 1000, b'6')?,
+    )?;
+    put(alloc, &mut contents, b"c", third)?;
+    let first = then(
+        set(alloc, ("f", b'q'), 1000, b'1')?,
+        set(alloc, ("g", b'q'), 1000, b'7')?,
+    )?;
+    put(alloc, &mut contents, b"a", first)?;
     let range = range(alloc, b"b", Some(b"d"))?;
     assert!(rt; keys_are(&contents.keys_in(alloc, &range)?, b"bc"));
     let family = family(alloc, "g")?;
@@ -243,26 +259,48 @@ fn a_bound_may_be_no_key(rt: HostRuntime) -> Result<(), Fail> {
     Ok(())
 }
 
+// Six cells, of which one is set twice.
+fn six_cells(alloc: Global) -> Result<MutationList, Fail>
+    ensures { IfOk result (λ list. HaveShort list) }
+{
+    let mutations = set(alloc, ("f0", b'q'), 1000, b'6')?;
+    let mutations = then(mutations, set(alloc, ("f", b'b'), 2000, b'5')?)?;
+    let mutations = then(mutations, set(alloc, ("f", b'a'), 1000, b'4')?)?;
+    let mutations = then(mutations, set(alloc, ("f", b'a'), 3000, b'2')?)?;
+    let mutations = then(mutations, set(alloc, ("f", b'a'), 2000, b'9')?)?;
+    let mutations = then(mutations, set(alloc, ("f", b'a'), 2000, b'3')?)?;
+    then(mutations, set(alloc, ("e", b'q'), 1000, b'1')?)
+}
+
+// The same, and then all but four of them go.
+fn four_cells(alloc: Global) -> Result<MutationList, Fail>
+    ensures { IfOk result (λ list. HaveShort list) }
+{
+    let mutations = six_cells(alloc)?;
+    then(mutations, delete_column(alloc, ("f", b'a'), 1000, 3000)?)
+}
+
+// The same, and then all but three of them go.
+fn three_cells(alloc: Global) -> Result<MutationList, Fail>
+    ensures { IfOk result (λ list. HaveShort list) }
+{
+    let mutations = four_cells(alloc)?;
+    then(mutations, delete_column(alloc, ("f", b'b'), 2000, 0)?)
+}
+
 #[test]
 fn deletions_take_what_they_name(rt: HostRuntime) -> Result<(), Fail> {
     let alloc = rt.alloc();
     let mut contents = Contents::new(alloc);
-    put(alloc, &mut contents, b"r", ("f0", b'q'), 1000, b'6')?;
-    put(alloc, &mut contents, b"r", ("f", b'b'), 2000, b'5')?;
-    put(alloc, &mut contents, b"r", ("f", b'a'), 1000, b'4')?;
-    put(alloc, &mut contents, b"r", ("f", b'a'), 3000, b'2')?;
-    put(alloc, &mut contents, b"r", ("f", b'a'), 2000, b'9')?;
-    put(alloc, &mut contents, b"r", ("f", b'a'), 2000, b'3')?;
-    put(alloc, &mut contents, b"r", ("e", b'q'), 1000, b'1')?;
+    put(alloc, &mut contents, b"r", six_cells(alloc)?)?;
     assert!(rt; first_row_is(alloc, &contents, b"123456")?);
-    let mutations = delete_column(alloc, ("f", b'a'), 1000, 3000)?;
-    change(alloc, &mut contents, b"r", mutations)?;
+    put(alloc, &mut contents, b"r", four_cells(alloc)?)?;
     assert!(rt; first_row_is(alloc, &contents, b"1256")?);
-    let mutations = delete_column(alloc, ("f", b'b'), 2000, 0)?;
-    change(alloc, &mut contents, b"r", mutations)?;
+    put(alloc, &mut contents, b"r", three_cells(alloc)?)?;
     assert!(rt; first_row_is(alloc, &contents, b"126")?);
-    let mutations = family_anew(alloc, ("f", b'c'), b'7')?;
-    change(alloc, &mut contents, b"r", mutations)?;
+    let anew = family_anew(alloc, ("f", b'c'), b'7')?;
+    let mutations = then(three_cells(alloc)?, anew)?;
+    put(alloc, &mut contents, b"r", mutations)?;
     assert!(rt; first_row_is(alloc, &contents, b"176")?);
     Ok(())
 }
@@ -271,14 +309,28 @@ fn deletions_take_what_they_name(rt: HostRuntime) -> Result<(), Fail> {
 fn a_row_goes_with_its_last_cell(rt: HostRuntime) -> Result<(), Fail> {
     let alloc = rt.alloc();
     let mut contents = Contents::new(alloc);
-    put(alloc, &mut contents, b"r", ("f", b'q'), 1000, b'1')?;
+    let cell = set(alloc, ("f", b'q'), 1000, b'1')?;
+    put(alloc, &mut contents, b"r", then(cell, delete_row(alloc)?)?)?;
+    assert!(rt; contents.is_empty());
+    let cell = set(alloc, ("f", b'q'), 1000, b'1')?;
+    let deletion = delete_column(alloc, ("f", b'q'), 0, 0)?;
+    put(alloc, &mut contents, b"r", then(cell, deletion)?)?;
+    assert!(rt; contents.is_empty());
+    Ok(())
+}
+
+#[test]
+fn a_row_is_taken_out(rt: HostRuntime) -> Result<(), Fail> {
+    let alloc = rt.alloc();
+    let mut contents = Contents::new(alloc);
+    let cell = set(alloc, ("f", b'q'), 1000, b'1')?;
+    put(alloc, &mut contents, b"r", cell)?;
     assert!(rt; contents.has_family(&family(alloc, "f")?));
     assert!(rt; !contents.has_family(&family(alloc, "e")?));
-    change(alloc, &mut contents, b"r", delete_row(alloc)?)?;
-    assert!(rt; contents.is_empty());
-    put(alloc, &mut contents, b"r", ("f", b'q'), 1000, b'1')?;
-    let mutations = delete_column(alloc, ("f", b'q'), 0, 0)?;
-    change(alloc, &mut contents, b"r", mutations)?;
+    let key = RowKey::new(alloc, b"r")?.ok_or("key")?;
+    assert!(rt; contents.get(&key).is_some());
+    contents.remove(&key);
+    assert!(rt; contents.get(&key).is_none());
     assert!(rt; contents.is_empty());
     Ok(())
 }

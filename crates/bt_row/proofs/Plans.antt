@@ -125,6 +125,16 @@ pub deleted_by : (d : Extent) (p : Plan) (es : Keyed) (xs ys : List CellKey) (f 
 deleted_by d p es xs ys f g planned_keys present_keys first second k =
     second k ∙ ap (λ v. cond (list_any (is_at (key_cmp k)) ys) None v) (first k) ∙ rw (planned_keys, present_keys) (deleted d p es k)
 
+-- without the keys that an extent covers is what it doesn't cover
+pub cleared : (d : Extent) (es : Keyed) (keys : List CellKey) → keys ≡ filter (is_covered d) (keys_of es) → (k : CellKey) → without keys (value_at es) k ≡ cond (is_covered d k) None (value_at es k)
+cleared d es keys are k = ap (λ ks. cond (list_any (is_at (key_cmp k)) ks) None (value_at es k)) are ∙ rw (named_among d es k) (by (value_at es k) (is_covered d k))
+  where
+    by : (v : Option (List ℕ)) (t : Bool) → cond (is_some v && t) None v ≡ cond t None v
+    by None true = refl
+    by None false = refl
+    by (Some v) true = refl
+    by (Some v) false = refl
+
 -- a key without the timestamp of a cell has no value among keys that have one
 pub untimed_none : {X : Type 0} (es : List (CellKey × X)) (k : CellKey) → AreTimed (keys_of es) → is_micros k.at ≡ false → value_at es k ≡ None
 untimed_none [] k timed not_one = refl
@@ -142,18 +152,26 @@ untimed_planned p es k timed plan_timed not_one = rw (untimed_none p.outcomes.en
     by true = refl
     by false = refl
 
--- a deletion leaves what its mutation leaves
-pub removed : (d : Extent) (m : Mutation) (p : Plan) (es : Keyed) → Covers d m → AreTimed (keys_of es) → AreTimed (keys_of p.outcomes.entries) → (k : CellKey)
-    → cond (is_covered d k) None (planned p es k) ≡ cond (removes m k) None (planned p es k)
-removed d m p es names timed plan_timed k = by (is_micros k.at) refl
+-- an extent leaves what its mutation leaves, where keys without the timestamp of a cell have no value
+pub removed_from : (d : Extent) (m : Mutation) (f : Values) (k : CellKey) → Covers d m → (is_micros k.at ≡ false → f k ≡ None) → cond (is_covered d k) None (f k) ≡ cond (removes m k) None (f k)
+removed_from d m f k names untimed = by (is_micros k.at) refl
   where
     none : (t : Bool) → cond {A = Option (List ℕ)} t None None ≡ None
     none true = refl
     none false = refl
 
-    by : (t : Bool) → is_micros k.at ≡ t → cond (is_covered d k) None (planned p es k) ≡ cond (removes m k) None (planned p es k)
-    by true one = ap (λ s. cond s None (planned p es k)) (names k one)
-    by false not_one = let nothing = untimed_planned p es k timed plan_timed not_one in rw nothing (none (is_covered d k) ∙ sym (none (removes m k)))
+    by : (t : Bool) → is_micros k.at ≡ t → cond (is_covered d k) None (f k) ≡ cond (removes m k) None (f k)
+    by true one = ap (λ s. cond s None (f k)) (names k one)
+    by false not_one = let nothing = untimed not_one in rw nothing (none (is_covered d k) ∙ sym (none (removes m k)))
+
+-- so a planned deletion does
+pub removed : (d : Extent) (m : Mutation) (p : Plan) (es : Keyed) → Covers d m → AreTimed (keys_of es) → AreTimed (keys_of p.outcomes.entries) → (k : CellKey)
+    → cond (is_covered d k) None (planned p es k) ≡ cond (removes m k) None (planned p es k)
+removed d m p es names timed plan_timed k = removed_from d m (planned p es) k names (untimed_planned p es k timed plan_timed)
+
+-- so does one that is made at once
+pub removed_now : (d : Extent) (m : Mutation) (es : Keyed) → Covers d m → AreTimed (keys_of es) → (k : CellKey) → cond (is_covered d k) None (value_at es k) ≡ cond (removes m k) None (value_at es k)
+removed_now d m es names timed k = removed_from d m (value_at es) k names (untimed_none es k timed)
 
 same_after : (m : Mutation) (f g : Values) (k : CellKey) → f k ≡ g k → value_after m f k ≡ value_after m g k
 same_after (SetCell family qualifier at value) f g k same = rw same refl

@@ -1,5 +1,5 @@
 -- What is made of sound values is sound.
-use Rattle.std.proofs.Common.{◌≡◌, ◌≤◌, ℕ, Bool, true, false, List, [], ◌∷◌, Option, Some, None, cond, length, refl, arith}
+use Rattle.std.proofs.Common.{◌≡◌, ◌≤◌, ℕ, Bool, true, false, List, [], ◌∷◌, Option, Some, None, cond, length, refl, subst, sym, arith}
 use Rattle.std.specs.Prelude.{◌&&◌, is_some, All, IfSome, IsSome}
 use Rattle.std.specs.Map.{keys_of, values_of}
 use Rattle.std.proofs.lemmas.Cmp.{eq_by_cmp_equiv}
@@ -19,7 +19,7 @@ use Rattle.bt_row.specs.Sound.{AreShort, IsSound}
 use Rattle.bt_row.specs.Extents.{AreTimed, IsTimed}
 use Rattle.bt_row.specs.Keys.{AreSorted, Keyed, cell_at, cells_of, key_cmp, key_total}
 use Rattle.bt_row.specs.Plans.{AreLawful, IsShortOrNone, is_new, is_wanted, outcome_or, placed, settled, value_at}
-use Rattle.bt_row.proofs.Plans.{untimed_none}
+use Rattle.bt_row.proofs.Plans.{same_key, untimed_none}
 
 -- the value at a key is short, and the key has the timestamp of a cell where there is one
 IsGood : CellKey → Option (List ℕ) → Type 0
@@ -54,6 +54,28 @@ sound_from es sorted good = record {
   short = short_cells es (All-values_from_lookup (eq_by_cmp_equiv key_total) (λ (v : List ℕ). length v ≤ most_of_value) es (IsDistinct-from_sorted key_cmp (keys_of es) sorted) (λ k. (good k).1));
 }
 
+no_value_good : (k : CellKey) → IsGood k None
+unfolding IsGood
+no_value_good k = (λ some. absurd (cc some), tt)
+
+module _ (es : Keyed) (sound : IsSound es) (fs : Keyed) (sorted : AreSorted fs) where
+  -- with a short value put in at a key with the timestamp of a cell it is
+  pub put_sound : (key : CellKey) (v : List ℕ) → IsTimed key → length v ≤ most_of_value → ((k : CellKey) → value_at fs k ≡ cond (is_at (key_cmp k) key) (Some v) (value_at es k)) → IsSound fs
+  unfolding IsGood
+  put_sound key v timed short values = sound_from fs sorted (λ k. rw (values k) (by k (is_at (key_cmp k) key) refl))
+    where
+      by : (k : CellKey) (t : Bool) → is_at (key_cmp k) key ≡ t → IsGood k (cond t (Some v) (value_at es k))
+      by k true same = (λ some. subst IsTimed (sym (same_key k key same)) timed, short)
+      by k false other = good_at es sound k
+
+  -- without some of the values it is
+  pub fewer_sound : (goes : CellKey → Bool) → ((k : CellKey) → value_at fs k ≡ cond (goes k) None (value_at es k)) → IsSound fs
+  fewer_sound goes values = sound_from fs sorted (λ k. rw (values k) (by k (goes k)))
+    where
+      by : (k : CellKey) (t : Bool) → IsGood k (cond t None (value_at es k))
+      by k true = no_value_good k
+      by k false = good_at es sound k
+
 module _ (outcomes : List (CellKey × Outcome)) (lawful : AreLawful outcomes) (es : Keyed) (sound : IsSound es) (fs : Keyed) (sorted : AreSorted fs) where
   -- with places it is
   pub placed_sound : ((k : CellKey) → value_at fs k ≡ placed outcomes (value_at es) k) → IsSound fs
@@ -73,11 +95,8 @@ pub settled_sound : (ending : Ending) (p : Plan) → AreLawful p.outcomes.entrie
 unfolding IsGood
 settled_sound ending p lawful es fs sound sorted values = sound_from fs sorted (λ k. rw (values k) (of ending k))
   where
-    nothing : (k : CellKey) → IsGood k None
-    nothing k = (λ some. absurd (cc some), tt)
-
     either : (k : CellKey) (t : Bool) → IsGood k (cond t None (value_at es k))
-    either k true = nothing k
+    either k true = no_value_good k
     either k false = good_at es sound k
 
     by : (k : CellKey) (o : Option Outcome) → value_at p.outcomes.entries k ≡ o → IfSome o (λ o. IsShortOrNone o.value) → IsGood k (outcome_or o (cond p.clears None (value_at es k)))

@@ -1,19 +1,20 @@
 //! The cells of a row.
-ghost use Rattle.std.specs.Prelude.{◌≡◌, ◌↔◌, [], Some, true, false, IfOk, OnOk, OnErr, IsTrue, bytes_eq};
+ghost use Rattle.std.specs.Prelude.{◌≡◌, ◌↔◌, [], None, Some, true, false, IfOk, OnOk, OnErr, IsTrue, bytes_eq, if◌then◌else◌};
 ghost use Rattle.std.specs.List.{find, list_any};
 ghost use Rattle.std.specs.Map.{keys_of};
 ghost use Rattle.std.specs.BTreeMap.{is_at};
 ghost use Rattle.bt_types.specs.Mutations.{applied, is_in_column};
 ghost use Rattle.bt_row.specs.declared.cell_key.CellKey.{CellKey};
-ghost use Rattle.bt_row.specs.Sound.{HaveShort, IsSound};
+ghost use Rattle.bt_row.specs.Sound.{HaveShort, IsShort, IsSound};
+ghost use Rattle.bt_row.specs.Extents.{is_covered};
 ghost use Rattle.bt_row.specs.Keys.{AreSorted, cells_of, key_cmp};
-ghost use Rattle.bt_row.specs.Plans.{AreLawful, CanSettle, IsPlan, placed, settled, value_at};
+ghost use Rattle.bt_row.specs.Plans.{AreLawful, CanSettle, IsPlan, placed, settled, value_after, value_at, values_after};
 
 use crate::cell_key::{CellKey, copy_of};
 use crate::extent::Extent;
 use crate::plan::{Ending, Plan};
 use bt_base::{Blob, OutOfMemory};
-use bt_types::{Cell, FamilyName, MutationList, Qualifier};
+use bt_types::{Cell, FamilyName, Mutation, MutationList, Qualifier};
 use std::alloc::Global;
 use std::collections::BTreeMap;
 
@@ -67,19 +68,66 @@ impl Row {
         Ok(Some(cell))
     }
 
-    /// Makes the changes of a list in order, all or none. It takes a search a cell that is set or
-    /// removed.
-    pub fn change(&mut self, alloc: Global, mutations: MutationList) -> Result<(), OutOfMemory>
+    /// Makes the changes of a list in order, of which some may be made where memory is short. It takes a
+    /// search a cell that is set or removed.
+    pub fn apply(&mut self, alloc: Global, mutations: MutationList) -> Result<(), OutOfMemory>
         requires sound { IsSound self.old.cells.entries }
         requires short { HaveShort mutations }
         ensures ok { OnOk result (cells_of self.new.cells.entries ≡ applied mutations (cells_of self.old.cells.entries)) }
-        ensures err { OnErr result (self.new.cells.entries ≡ self.old.cells.entries) }
+        ensures values { OnOk result ((k : CellKey) → value_at self.new.cells.entries k ≡ values_after mutations (value_at self.old.cells.entries) k) }
         ensures sound { IsSound self.new.cells.entries }
     {
-        let mut plan = Plan::new(alloc);
-        plan.add_all(alloc, &self.cells, mutations)?;
-        self.make_places(alloc, &plan)?;
-        self.settle(plan, Ending::CarryOut);
+        for mutation in mutations.into_vec() {
+            self.apply_one(alloc, mutation)?;
+        }
+        Ok(())
+    }
+
+    fn apply_one(&mut self, alloc: Global, mutation: Mutation) -> Result<(), OutOfMemory>
+        requires sound { IsSound self.old.cells.entries }
+        requires short { IsShort mutation }
+        ensures values { OnOk result ((k : CellKey) → value_at self.new.cells.entries k ≡ value_after mutation (value_at self.old.cells.entries) k) }
+        ensures sound { IsSound self.new.cells.entries }
+    {
+        match mutation {
+            Mutation::SetCell {
+                family,
+                qualifier,
+                at,
+                value,
+            } => {
+                let key = CellKey::new(family, qualifier, at);
+                self.cells.insert(key, value)?;
+                Ok(())
+            }
+            Mutation::DeleteColumn {
+                family,
+                qualifier,
+                start,
+                end,
+            } => {
+                let extent = Extent::of_column(family, qualifier, start, end);
+                self.remove(alloc, &extent)
+            }
+            Mutation::DeleteFamily { family } => {
+                let extent = Extent::of_family(alloc, family)?;
+                self.remove(alloc, &extent)
+            }
+            Mutation::DeleteRow => {
+                self.cells.clear();
+                Ok(())
+            }
+        }
+    }
+
+    fn remove(&mut self, alloc: Global, extent: &Extent) -> Result<(), OutOfMemory>
+        requires sound { IsSound self.old.cells.entries }
+        ensures values { OnOk result ((k : CellKey) → value_at self.new.cells.entries k ≡ (if is_covered extent.now k then None else value_at self.old.cells.entries k)) }
+        ensures sound { IsSound self.new.cells.entries }
+    {
+        for key in extent.keys_in(alloc, &self.cells)? {
+            self.cells.remove(&key);
+        }
         Ok(())
     }
 

@@ -12,12 +12,12 @@ settle_there-requires-clause-tables c = c.loop-at.invariant.2
 pub settle_there-requires-clause-lawful : goal.settle_there-requires-clause-lawful
 settle_there-requires-clause-lawful c =
     let step = c.in-Some.ensures.steps in
-    holds_first (c.in-Some.at, c.in-Some.plan) c.next.new.self (rw step at c.loop-at.invariant.1) (λ a p. AreLawful p.outcomes.entries) (rw step at c.loop-at.invariant.3)
+    holds_first {X = Plan} (c.in-Some.at, c.in-Some.plan) c.next.new.self (rw step at c.loop-at.invariant.1) (λ a p. AreLawful p.outcomes.entries) (rw step at c.loop-at.invariant.3)
 
 pub settle_there-requires-clause-can : goal.settle_there-requires-clause-can
 settle_there-requires-clause-can c =
     let step = c.in-Some.ensures.steps in
-    holds_first (c.in-Some.at, c.in-Some.plan) c.next.new.self (rw step at c.loop-at.invariant.1) (λ a p. CanSettle c.args.ending p (cells_there c.loop-at.tables.entries a)) (rw step at c.loop-at.invariant.4)
+    holds_first {X = Plan} (c.in-Some.at, c.in-Some.plan) c.next.new.self (rw step at c.loop-at.invariant.1) (λ a p. CanSettle c.args.ending p (cells_there c.loop-at.tables.entries a)) (rw step at c.loop-at.invariant.4)
 
 -- the plan at hand has ended
 pub loop-at-preserved : goal.loop-at-preserved
@@ -32,7 +32,7 @@ loop-at-preserved c =
       tt,
       sorted_tail at_cmp _ _ sorted,
       c.settle_there.ensures.tables,
-      holds_later e rest sorted (λ a p. AreLawful p.outcomes.entries) (λ a p. AreLawful p.outcomes.entries) (λ a p other lawful. lawful) (rw step at c.loop-at.invariant.3),
-      holds_later e rest sorted (λ a p. CanSettle ending p (cells_there old a)) (λ a p. CanSettle ending p (cells_there new a)) (λ a p other can. subst (CanSettle ending p) (sym (c.settle_there.ensures.elsewhere a other)) can) (rw step at c.loop-at.invariant.4),
+      holds_later {X = Plan} e rest sorted (λ a p. AreLawful p.outcomes.entries) (λ a p. AreLawful p.outcomes.entries) (λ a p other lawful. lawful) (rw step at c.loop-at.invariant.3),
+      holds_later {X = Plan} e rest sorted (λ a p. CanSettle ending p (cells_there old a)) (λ a p. CanSettle ending p (cells_there new a)) (λ a p other can. subst (CanSettle ending p) (sym (c.settle_there.ensures.elsewhere a other)) can) (rw step at c.loop-at.invariant.4),
       λ a k. settled_one e rest sorted old new c.settle_there.ensures.elsewhere ending c.settle_there.ensures.values a k ∙ (rw step at c.loop-at.invariant.5) a k,
     )
