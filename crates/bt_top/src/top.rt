@@ -15,6 +15,7 @@ use bt_store::{Limits, Store, StoreFault};
 use bt_types::TextList;
 use bt_words::{Command, WordsRefusal, read_words};
 use std::alloc::Global;
+use std::mem;
 
 /// Does what the words of the command line ask for, over this disk, these links, this clock and
 /// this screen.
@@ -72,7 +73,8 @@ fn connections_of(command: &Command) -> u32
     }
 }
 
-// Loads the tables, and serves so many connections.
+// Loads the tables, and serves so many connections. The tables are left to the end of the process, which takes
+// their memory back at once: to let each row go first would only make the end later.
 fn served<D: Disk, L: Links<D>, C: Clock>(
     alloc: Global,
     disk: &mut D,
@@ -93,7 +95,11 @@ fn served<D: Disk, L: Links<D>, C: Clock>(
     ensures link_fault { result ≡ Exit.LinkFault → Risen (L.next_faults links.old) (L.next_faults links.new) }
 {
     match Store::load(alloc, disk, &Limits::standard()) {
-        Ok(mut store) => session(alloc, &mut store, disk, links, clock, count),
+        Ok(mut store) => {
+            let exit = session(alloc, &mut store, disk, links, clock, count);
+            mem::forget(store);
+            exit
+        }
         Err(fault) => exit_of(fault),
     }
 }

@@ -5,7 +5,7 @@ use Rattle.bt_top.proofs.top.served.Goals as goal
 pub returns-in-Ok-clause-run : goal.returns-in-Ok-clause-run
 returns-in-Ok-clause-run g c d l k s holds =
     let loaded = c.in-Ok.ensures.stands d in
-    ended_run g.D.Disk _ _ _ _ _ _ _ _ _ _ _ _ _ _ _ _ _ _ (c.in-Ok.ensures.limits ∙ c.standard.ensures) loaded.1 holds c.load.ensures.any_moment (c.session.ensures.session d l k loaded.0 loaded.2)
+    ended_run g.D.Disk _ _ _ _ _ _ _ _ _ _ _ _ _ _ _ _ _ _ (c.in-Ok.ensures.limits ∙ c.standard.ensures) loaded.1 holds c.load.ensures.any_moment (c.session-exit.ensures.session d l k loaded.0 loaded.2)
 
 pub returns-in-Err-clause-run : goal.returns-in-Err-clause-run
 returns-in-Err-clause-run g c d l k s holds = ended_unserved g.D.Disk _ _ _ _ _ _ _ _ _ _ (unserved_ends _ c.in-Err.fault _ _ c.exit_of.ensures) holds (c.load.ensures.same d) c.load.ensures.any_moment
