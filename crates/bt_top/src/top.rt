@@ -28,6 +28,8 @@ use std::mem;
 /// disk holds the state after it, that a crash at each moment leaves the state after a prefix of its
 /// records with every acknowledged one, and that the run is complete where no fault was counted.
 /// Over files that stand for no state nothing is served, and they stay broken at the same place.
+///
+/// The memory of the tables is left to the end of the process, so a process calls it once.
 pub fn bigtable<D: Disk, L: Links<D>, C: Clock, P: Print>(
     alloc: Global,
     words: &TextList,
@@ -73,8 +75,7 @@ fn connections_of(command: &Command) -> u32
     }
 }
 
-// Loads the tables, and serves so many connections. The tables are left to the end of the process, which takes
-// their memory back at once: to let each row go first would only make the end later.
+// Loads the tables, and serves so many connections. To let each row go at the end would only make it later.
 fn served<D: Disk, L: Links<D>, C: Clock>(
     alloc: Global,
     disk: &mut D,
