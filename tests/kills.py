@@ -69,11 +69,9 @@ def killed(program, folder, first, wait):
 
 def rows(program, folder):
     done = subprocess.run([program, "run", folder], input=line(READ), stdout=subprocess.PIPE, check=True)
-    first, last = done.stdout.split(b"\n")[0], done.stdout.split(b"\n")[-2]
+    *responses, last = done.stdout.splitlines()
     assert last == b'{"status":{}}', last
-    if first == last:
-        return {}
-    chunks = json.loads(first)["response"]["chunks"]
+    chunks = [chunk for line in responses for chunk in json.loads(line)["response"]["chunks"]]
     return {base64.b64decode(c["rowKey"]).decode(): base64.b64decode(c["value"]).decode() for c in chunks}
 
 
