@@ -3,10 +3,10 @@
 
     batches.py PROGRAM READER DIR [ROWS]
 
-PROGRAM is the built bt_prog, READER the built bt_asks, DIR a folder on the device to measure. ROWS
+PROGRAM is the built bt_prog, READER the built bt_texts, DIR a folder on the device to measure. ROWS
 rows of four cells (100,000, unless told) are loaded by MutateRows of 100 entries, each of which is one
-record of the log; beside it the time that READER takes for the same lines under a method that
-there is not, which is little more than reading them as JSON. Then, in a folder in memory, where
+record of the log; beside it the time that READER takes to read the same lines by serde_json
+alone. Then, in a folder in memory, where
 syncs cost nothing: lines that set and delete one cell of a row of 1,000 to 100,000 cells, and
 lines that drop the ten rows of a prefix, one prefix after another, from tables of 1,000 to 100,000
 rows. Best of three.
@@ -77,8 +77,8 @@ def run(program, where, given):
 def load(program, reader, where, rows):
     lines = "".join(batches(rows))
     took = run(program, where, CREATE + lines)
-    unknown = lines.replace('"method":"MutateRows"', '"method":"NoSuchName"').encode()
-    read = min(taken([reader], unknown)[0] for _ in range(3))
+    alone = "".join("serde_json " + line for line in lines.splitlines(keepends=True)).encode()
+    read = min(taken([reader], alone)[0] for _ in range(3))
     print(f"load of {rows} rows by batches of 100: {rows / took:.0f} rows a second, {took:.2f} s")
     print(f"their {len(lines) / 1e6:.1f} MB of lines, read as JSON alone: {read:.2f} s, ratio {took / read:.2f}")
 

@@ -1,8 +1,8 @@
 //! Reads each line of standard input as a request, and prints `ok` or why it is refused.
 #![tactic(auto)]
 
+use bt_json::{Scratch, Value};
 use bt_requests::{LineRefusal, Method, RequestRefusal, read_envelope, read_request};
-use serde_json::Value;
 use std::alloc::{AllocError, Global};
 use std::io::Read;
 use std::process::ExitCode;
@@ -13,7 +13,7 @@ fn named(alloc: Global, text: &str, name: &[u8]) -> Result<String, AllocError> {
     format!(in alloc; "{text} {name}")
 }
 
-fn request_answer(alloc: Global, method: Method, value: &Value) -> Result<String, AllocError> {
+fn request_answer(alloc: Global, method: Method, value: &Value<'_>) -> Result<String, AllocError> {
     match read_request(alloc, method, value) {
         Ok(_) => String::from_str(alloc, "ok"),
         Err(RequestRefusal::NotBuilt) => String::from_str(alloc, "not built"),
@@ -25,7 +25,8 @@ fn request_answer(alloc: Global, method: Method, value: &Value) -> Result<String
 }
 
 fn answer(alloc: Global, line: &[u8]) -> Result<String, AllocError> {
-    match read_envelope(alloc, line) {
+    let mut scratch = Scratch::new(alloc);
+    match read_envelope(alloc, line, &mut scratch) {
         Ok((method, value)) => request_answer(alloc, method, &value),
         Err(LineRefusal::NotJson) => String::from_str(alloc, "not json"),
         Err(LineRefusal::BadEnvelope) => String::from_str(alloc, "bad envelope"),

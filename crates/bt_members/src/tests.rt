@@ -1,20 +1,17 @@
 //! Members of each kind, by their JSON names and by their original names.
 use super::*;
+use bt_json::{Scratch, read};
 use bt_walk::{Many, Shape, faults};
-use serde_json::Value;
-use std::alloc::Global;
 use std::test::Fail;
-
-fn value(alloc: Global, text: &str) -> Result<Value, Fail> {
-    Ok(Value::from_str(alloc, text)?)
-}
 
 #[test]
 fn members_are_read_by_either_name(rt: HostRuntime) -> Result<(), Fail> {
     let alloc = rt.alloc();
-    let value = value(
+    let mut scratch = Scratch::new(alloc);
+    let value = read(
         alloc,
         r#"{"tableName":"t","row_key":"cg==","timestampMicros":"-1","retention_period":"1.5s","rules":[null],"columnFamilies":{"f":{}},"drop":true,"maxNumVersions":7,"familyName":null}"#,
+        &mut scratch,
     )?;
     assert_eq!(rt; text_at(&value, names::TABLE_NAME), "t");
     assert_eq!(rt; text_at(&value, names::FAMILY_NAME), "");
@@ -42,7 +39,8 @@ fn members_are_read_by_either_name(rt: HostRuntime) -> Result<(), Fail> {
 #[test]
 fn a_member_that_is_not_known_is_a_fault(rt: HostRuntime) -> Result<(), Fail> {
     let alloc = rt.alloc();
-    let value = value(alloc, r#"{"rowKey":"","zoo":1}"#)?;
+    let mut scratch = Scratch::new(alloc);
+    let value = read(alloc, r#"{"rowKey":"","zoo":1}"#, &mut scratch)?;
     let shape = Shape::Of(kinds::MUTATE_ROW);
     let found = faults(&Messages, Many::One, shape, "request", &value);
     assert_eq!(rt; found.bad, Some("zoo"));

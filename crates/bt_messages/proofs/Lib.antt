@@ -1,3 +1,4 @@
 pub mod NoFloats
 pub mod LineTexts
 pub mod Runs
+pub mod StatusTexts

@@ -18,8 +18,8 @@ use Rattle.bt_messages.specs.Values.{shown_bytes, shown_label, shown_name}
 use Rattle.bt_messages.specs.Lines.{is_nonempty, is_nonzero, object_with, response_data, status_data, status_members, with_bytes, with_if, with_int64, with_items, with_number, with_some, with_text}
 use Rattle.bt_messages.specs.Rows.{family_of, is_same_column, is_same_family, qualifier_of, runs_of, shown_cell, shown_column, shown_row}
 use Rattle.bt_messages.specs.Rows as rows
-use Rattle.bt_messages.specs.Responses.{families_onto, shown, shown_families, shown_family, shown_match, shown_node, shown_rule, shown_rules, shown_status, shown_statuses, shown_statuses_from, shown_stream, shown_table_name, shown_table_names, shown_chunk, shown_chunks, shown_table}
-use Rattle.bt_messages.specs.declared.response.EntryStatus.{EntryStatus}
+use Rattle.bt_messages.specs.Responses.{families_onto, shown, shown_families, shown_family, shown_match, shown_node, shown_rule, shown_rules, shown_stream, shown_table_name, shown_table_names, shown_chunk, shown_chunks, shown_table}
+use Rattle.bt_messages.specs.Statuses.{has_statuses}
 use Rattle.bt_messages.specs.declared.response.Response.{Response}
 use Rattle.bt_messages.specs.declared.response.Response.TheVariants.{CreateTable, GetTable, ListTables, DeleteTable, UpdateTable, ModifyColumnFamilies, DropRowRange, MutateRow, MutateRows, ReadRows, CheckAndMutateRow, ReadModifyWriteRow}
 
@@ -118,19 +118,6 @@ table_plain t = neither (has_float (shown_table t)) false (shown_table_plain t) 
 shown_names_plain : (names : List (List ℕ)) → has_float (shown_table_names names) ≡ false
 shown_names_plain names = with_if_plain (is_nonempty names) (codes "tables") (array (items_of (map shown_table_name names))) no_members (each_plain shown_table_name names (λ n. refl)) refl
 
-shown_status_plain : (index : ℕ) (s : EntryStatus) → has_float (shown_status index s) ≡ false
-shown_status_plain index s =
-    let said = put (codes "status") (status_members s.code s.text) no_members in
-    let p : members_have_float said ≡ false = put_plain (codes "status") (status_members s.code s.text) no_members (members_plain s.code s.text) refl in
-    with_if_plain (is_nonzero (pos index)) (codes "index") (string (signed_decimal (pos index))) said refl p
-
-statuses_plain : (index : ℕ) (ss : List EntryStatus) → items_have_float (items_of (shown_statuses_from index ss)) ≡ false
-statuses_plain index [] = refl
-statuses_plain index (s ∷ ss) = neither (has_float (shown_status index s)) (items_have_float (items_of (shown_statuses_from (index + 1) ss))) (shown_status_plain index s) (statuses_plain (index + 1) ss)
-
-shown_statuses_plain : (ss : List EntryStatus) → has_float (shown_statuses ss) ≡ false
-shown_statuses_plain ss = with_if_plain (is_nonempty ss) (codes "entries") (array (items_of (shown_statuses_from 0 ss))) no_members (statuses_plain 0 ss) refl
-
 shown_chunk_plain : (c : Chunk) → has_float (shown_chunk c) ≡ false
 shown_chunk_plain c =
     let size = with_number (codes "valueSize") c.size no_members in
@@ -179,18 +166,18 @@ row_plain key cs =
 match_plain : (matched : Bool) → has_float (shown_match matched) ≡ false
 match_plain matched = with_if_plain matched (codes "predicateMatched") (boolean true) no_members refl refl
 
-pub shown_plain : (r : Response) → has_float (response_data (shown r)) ≡ false
-shown_plain (CreateTable t) = table_plain t
-shown_plain (GetTable t) = table_plain t
-shown_plain (ListTables names) = neither (has_float (shown_table_names names)) false (shown_names_plain names) refl
-shown_plain DeleteTable = refl
-shown_plain (UpdateTable t) = table_plain t
-shown_plain (ModifyColumnFamilies t) = table_plain t
-shown_plain DropRowRange = refl
-shown_plain MutateRow = refl
-shown_plain (MutateRows ss) = neither (has_float (shown_statuses ss)) false (shown_statuses_plain ss) refl
-shown_plain (ReadRows cs) = neither (has_float (shown_chunks cs)) false (shown_chunks_plain cs) refl
-shown_plain (CheckAndMutateRow matched) = neither (has_float (shown_match matched)) false (match_plain matched) refl
-shown_plain (ReadModifyWriteRow key cells) =
+pub shown_plain : (r : Response) → has_statuses r ≡ false → has_float (response_data (shown r)) ≡ false
+shown_plain (CreateTable t) h = table_plain t
+shown_plain (GetTable t) h = table_plain t
+shown_plain (ListTables names) h = neither (has_float (shown_table_names names)) false (shown_names_plain names) refl
+shown_plain DeleteTable h = refl
+shown_plain (UpdateTable t) h = table_plain t
+shown_plain (ModifyColumnFamilies t) h = table_plain t
+shown_plain DropRowRange h = refl
+shown_plain MutateRow h = refl
+shown_plain (MutateRows ss) h = absurd (cc)
+shown_plain (ReadRows cs) h = neither (has_float (shown_chunks cs)) false (shown_chunks_plain cs) refl
+shown_plain (CheckAndMutateRow matched) h = neither (has_float (shown_match matched)) false (match_plain matched) refl
+shown_plain (ReadModifyWriteRow key cells) h =
     let row : has_float (object_with (codes "row") (shown_row key cells)) ≡ false = neither (has_float (shown_row key cells)) false (row_plain key cells) refl in
     neither (has_float (object_with (codes "row") (shown_row key cells))) false row refl

@@ -3,3 +3,4 @@ pub mod Refusals
 pub mod Values
 pub mod Rows
 pub mod Responses
+pub mod Statuses

@@ -11,6 +11,7 @@ mod response;
 mod row_value;
 mod rule_value;
 mod status_value;
+mod statuses;
 mod table_value;
 
 pub use lines::{empty_lines, ok_line};

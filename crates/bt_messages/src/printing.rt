@@ -1,16 +1,18 @@
 //! The lines of responses and statuses.
-ghost use Rattle.std.specs.Prelude.{◌≡◌, ◌++◌, IfOk, codes};
+ghost use Rattle.std.specs.Prelude.{◌≡◌, ◌++◌, false, IfOk, codes};
 ghost use Rattle.serde_json.specs.View.{view};
 ghost use Rattle.bt_messages.specs.Lines.{line_of, object_with, ok_line, response_data, status_data};
 ghost use Rattle.bt_messages.specs.Responses.{shown, shown_match, shown_table};
 ghost use Rattle.bt_messages.specs.Rows.{shown_row};
+ghost use Rattle.bt_messages.specs.Statuses.{has_statuses};
 
 use crate::chunk_value::chunks_value;
 use crate::lines::{line, ok_line};
 use crate::members::put_true;
 use crate::response::Response;
 use crate::row_value::row_value;
-use crate::status_value::{status_members, statuses_value};
+use crate::status_value::status_members;
+use crate::statuses::statuses_line;
 use crate::table_value::{table_names_value, table_value};
 use bt_base::{Blob, OutOfMemory};
 use bt_entry::TableInfo;
@@ -76,11 +78,23 @@ pub fn status_line(alloc: Global, code: u8, text: &str) -> Result<Blob, OutOfMem
 fn response_bytes(alloc: Global, response: &Response) -> Result<Vec<u8>, OutOfMemory>
     ensures { IfOk result (λ out. out.items ≡ line_of (response_data (shown response.now))) }
 {
+    match response {
+        Response::MutateRows(statuses) => statuses_line(alloc, statuses.items()),
+        _ => value_line(alloc, response),
+    }
+}
+
+// The line of a response that is first made as a value.
+fn value_line(alloc: Global, response: &Response) -> Result<Vec<u8>, OutOfMemory>
+    requires { has_statuses response.now ≡ false }
+    ensures { IfOk result (λ out. out.items ≡ line_of (response_data (shown response.now))) }
+{
     let value = response_value(alloc, response)?;
     line(alloc, &value)
 }
 
 fn response_value(alloc: Global, response: &Response) -> Result<Value, OutOfMemory>
+    requires { has_statuses response.now ≡ false }
     ensures { IfOk result (λ v. view v ≡ response_data (shown response.now)) }
 {
     let shown = shown_value(alloc, response)?;
@@ -88,6 +102,7 @@ fn response_value(alloc: Global, response: &Response) -> Result<Value, OutOfMemo
 }
 
 fn shown_value(alloc: Global, response: &Response) -> Result<Value, OutOfMemory>
+    requires { has_statuses response.now ≡ false }
     ensures { IfOk result (λ v. view v ≡ shown response.now) }
 {
     match response {
@@ -99,7 +114,7 @@ fn shown_value(alloc: Global, response: &Response) -> Result<Value, OutOfMemory>
         Response::ModifyColumnFamilies(table) => table_value(alloc, table),
         Response::DropRowRange => Ok(Value::Object(Map::new(alloc))),
         Response::MutateRow => Ok(Value::Object(Map::new(alloc))),
-        Response::MutateRows(statuses) => statuses_value(alloc, statuses.items()),
+        Response::MutateRows(_) => unreachable!(),
         Response::ReadRows(chunks) => chunks_value(alloc, chunks),
         Response::CheckAndMutateRow(matched) => match_value(alloc, *matched),
         Response::ReadModifyWriteRow { key, cells } => row_response(alloc, key, cells.items()),

@@ -1,8 +1,8 @@
 //! The lines of responses, as written by hand.
-use crate::{Response, response_line};
+use crate::{EntryStatus, EntryStatusList, Response, response_line, served_lines};
 use bt_base::Blob;
 use bt_chunks::{Chunk, ChunkList};
-use bt_types::{Cell, CellList, FamilyName, Label, Micros, Qualifier, RowKey};
+use bt_types::{Cell, CellList, FamilyName, Label, Micros, Qualifier, RowKey, Text};
 use std::alloc::Global;
 use std::test::Fail;
 
@@ -86,5 +86,39 @@ fn a_match_is_printed(rt: HostRuntime) -> Result<(), Fail> {
     );
     let failed = response_line(alloc, &Response::CheckAndMutateRow(false))?;
     assert_eq!(rt; failed.bytes(), b"{\"response\":{}}\n".as_slice());
+    Ok(())
+}
+
+// What became of an entry.
+fn status(alloc: Global, code: u8, text: &str) -> Result<EntryStatus, Fail> {
+    Ok(EntryStatus {
+        code,
+        text: Text::new(alloc, text)?,
+    })
+}
+
+#[test]
+fn statuses_are_printed(rt: HostRuntime) -> Result<(), Fail> {
+    let alloc = rt.alloc();
+    let mut statuses = EntryStatusList::new(alloc);
+    statuses.push(status(alloc, 0, "")?)?;
+    statuses.push(status(alloc, 0, "")?)?;
+    statuses.push(status(alloc, 5, "family not found")?)?;
+    let lines = served_lines(alloc, &Response::MutateRows(statuses))?;
+    assert_eq!(rt;
+        lines.bytes(),
+        br#"{"response":{"entries":[{"status":{}},{"index":"1","status":{}},{"index":"2","status":{"code":5,"message":"family not found"}}]}}
+{"status":{}}
+"#
+            .as_slice()
+    );
+    Ok(())
+}
+
+#[test]
+fn no_statuses_are_printed(rt: HostRuntime) -> Result<(), Fail> {
+    let alloc = rt.alloc();
+    let line = response_line(alloc, &Response::MutateRows(EntryStatusList::new(alloc)))?;
+    assert_eq!(rt; line.bytes(), b"{\"response\":{}}\n".as_slice());
     Ok(())
 }

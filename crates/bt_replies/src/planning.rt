@@ -1,6 +1,6 @@
 //! From a line to its plan.
 ghost use Rattle.std.specs.Prelude.{◌≡◌, ◌≤◌, IfOk};
-ghost use Rattle.serde_json.specs.View.{view};
+ghost use Rattle.bt_json.specs.View.{view};
 ghost use Rattle.bt_entry.specs.Grammar.{last_moment};
 ghost use Rattle.bt_plans.specs.Plans.{IsPlan, IsPlanOf};
 ghost use Rattle.bt_plans.specs.Replies.{refused_by};
@@ -10,6 +10,7 @@ ghost use Rattle.bt_requests.specs.Requests.{request_in};
 ghost use Rattle.bt_state.specs.State.{Present};
 
 use bt_base::OutOfMemory;
+use bt_json::{Scratch, Value};
 use bt_messages::{Refusal, bad_field_line, unsupported_line};
 use bt_plans::{Answer, Plan};
 use bt_read_write_replies::check_and_mutate_row::{Check, check_and_mutate_row};
@@ -26,7 +27,6 @@ use bt_table_replies::get_table::get_table;
 use bt_table_replies::list_tables::list_tables;
 use bt_table_replies::modify_column_families::modify_column_families;
 use bt_table_replies::update_table::update_table;
-use serde_json::Value;
 use std::alloc::Global;
 
 /// What a line is answered at a moment, in microseconds since 1970, over the tables as they are, and
@@ -42,7 +42,8 @@ pub fn planned(
     requires not_past { moment ≤ last_moment }
     ensures { IfOk result (λ plan. IsPlanOf plan present.now (IsReplyTo present.now moment line.now)) }
 {
-    match read_envelope(alloc, line) {
+    let mut scratch = Scratch::new(alloc);
+    match read_envelope(alloc, line, &mut scratch) {
         Ok((method, value)) => asked_plan(alloc, present, method, &value, moment),
         Err(LineRefusal::OutOfMemory) => Err(OutOfMemory),
         Err(refusal) => Ok(Plan::refuses(envelope_refusal(refusal))),
@@ -64,7 +65,7 @@ fn asked_plan(
     alloc: Global,
     present: &Present,
     method: Method,
-    value: &Value,
+    value: &Value<'_>,
     moment: u64,
 ) -> Result<Plan, OutOfMemory>
     requires not_before { present.now.floor ≤ moment }

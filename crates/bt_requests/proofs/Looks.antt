@@ -4,8 +4,8 @@ use Rattle.std.specs.Str.{IsUtf8, is_utf8}
 use Rattle.std.proofs.lemmas.Str.{IsUtf8-from_is_utf8, is_utf8-from_IsUtf8}
 use Rattle.serde_json.specs.Data.{Data}
 use Rattle.serde_json.specs.Find.{as_object}
-use Rattle.serde_json.specs.View.{members_view}
-use Rattle.serde_json.proofs.Views.{Entry, members_len-members_view}
+use Rattle.bt_json.specs.View.{members_view}
+use Rattle.bt_json.proofs.Views.{Entry, members_len-members_view}
 use Rattle.bt_requests.specs.Envelopes.{member_count, text_of}
 
 pub count_members : (d : Data) (es : List Entry) (n : ℕ) → Some (members_view es) ≡ as_object d → n ≡ length es → Some n ≡ member_count d

@@ -5,8 +5,8 @@ use Rattle.serde_json.specs.Data.{Data, object, no_members}
 use Rattle.serde_json.specs.Events.{members_len}
 use Rattle.serde_json.specs.Find.{get, as_null, as_str, as_object}
 use Rattle.serde_json.specs.Read.{read}
-use Rattle.serde_json.specs.View.{view}
-use Rattle.serde_json.specs.declared.value.Value.{Value}
+use Rattle.bt_json.specs.View.{view}
+use Rattle.bt_json.specs.declared.value.Value.{Value}
 use Rattle.bt_requests.specs.Methods.{method_named}
 use Rattle.bt_requests.specs.declared.method.Method.{Method}
 use Rattle.bt_requests.specs.declared.envelope.LineRefusal.{LineRefusal}

@@ -1,6 +1,6 @@
 //! The request CheckAndMutateRow.
 ghost use Rattle.std.specs.Prelude.{◌≡◌, IfOk};
-ghost use Rattle.serde_json.specs.View.{view};
+ghost use Rattle.bt_json.specs.View.{view};
 ghost use Rattle.bt_requests.specs.CheckAndMutate.{check_and_mutate_row};
 ghost use Rattle.bt_requests.specs.Readers.{IsInOrder};
 
@@ -8,14 +8,14 @@ use crate::filters::predicate_at;
 use crate::mutations::mutations_in;
 use crate::request::Request;
 use bt_base::OutOfMemory;
+use bt_json::Value;
 use bt_members::{bytes_at, items_at, names, text_at};
 use bt_types::TableName;
-use serde_json::Value;
 use std::alloc::Global;
 
 pub(crate) fn check_and_mutate_row(
     alloc: Global,
-    value: &Value,
+    value: &Value<'_>,
 ) -> Result<Option<Request>, OutOfMemory>
     ensures exact { IfOk result (λ r. r ≡ check_and_mutate_row (view value.now)) }
     ensures order { IfOk result IsInOrder }

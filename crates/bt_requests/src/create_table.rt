@@ -1,18 +1,18 @@
 //! The request CreateTable.
 ghost use Rattle.std.specs.Prelude.{◌≡◌, IfOk};
-ghost use Rattle.serde_json.specs.View.{view, members_view};
+ghost use Rattle.bt_json.specs.View.{view, members_view};
 ghost use Rattle.bt_requests.specs.Readers.{Ascend, IsInOrder, create_table, families_in, families_of, family, retention_in};
 
 use crate::families::{AskedFamily, AskedFamilyList};
 use crate::request::Request;
 use crate::rules::rule_of_family;
 use bt_base::{Blob, OutOfMemory};
+use bt_json::{Map, Value};
 use bt_members::{members_at, micros_at, names, text_at, value_at};
 use bt_types::TableName;
-use serde_json::{Map, Value};
 use std::alloc::Global;
 
-pub(crate) fn create_table(alloc: Global, value: &Value) -> Result<Option<Request>, OutOfMemory>
+pub(crate) fn create_table(alloc: Global, value: &Value<'_>) -> Result<Option<Request>, OutOfMemory>
     ensures exact { IfOk result (λ r. r ≡ create_table (view value.now)) }
     ensures order { IfOk result IsInOrder }
 {
@@ -31,7 +31,7 @@ pub(crate) fn create_table(alloc: Global, value: &Value) -> Result<Option<Reques
 }
 
 /// The retention of the table's change stream, in microseconds.
-pub(crate) fn retention_in(alloc: Global, value: &Value) -> Result<Option<i64>, OutOfMemory>
+pub(crate) fn retention_in(alloc: Global, value: &Value<'_>) -> Result<Option<i64>, OutOfMemory>
     ensures { IfOk result (λ r. r ≡ retention_in (view value.now)) }
 {
     let Some(table) = value_at(value, names::TABLE) else {
@@ -45,7 +45,7 @@ pub(crate) fn retention_in(alloc: Global, value: &Value) -> Result<Option<i64>, 
 }
 
 #[tactic(auto, using(crate::proofs::FamilyOrder::none_ascend))]
-fn families_in(alloc: Global, value: &Value) -> Result<AskedFamilyList, OutOfMemory>
+fn families_in(alloc: Global, value: &Value<'_>) -> Result<AskedFamilyList, OutOfMemory>
     ensures exact { IfOk result (λ list. list ≡ families_in (view value.now)) }
     ensures order { IfOk result Ascend }
 {
@@ -58,7 +58,7 @@ fn families_in(alloc: Global, value: &Value) -> Result<AskedFamilyList, OutOfMem
     families_of(alloc, entries)
 }
 
-fn families_of(alloc: Global, entries: &Map<String, Value>) -> Result<AskedFamilyList, OutOfMemory>
+fn families_of(alloc: Global, entries: &Map<'_>) -> Result<AskedFamilyList, OutOfMemory>
     ensures exact { IfOk result (λ list. list ≡ families_of (members_view entries.now.entries)) }
     ensures order { IfOk result Ascend }
 {
@@ -67,12 +67,12 @@ fn families_of(alloc: Global, entries: &Map<String, Value>) -> Result<AskedFamil
         if value.is_null() {
             continue;
         }
-        families.push(family(alloc, key.as_str(), value)?)?;
+        families.push(family(alloc, *key, value)?)?;
     }
     Ok(families)
 }
 
-fn family(alloc: Global, name: &str, value: &Value) -> Result<AskedFamily, OutOfMemory>
+fn family(alloc: Global, name: &str, value: &Value<'_>) -> Result<AskedFamily, OutOfMemory>
     ensures { IfOk result (λ f. f ≡ family name.now (view value.now)) }
 {
     let name = Blob::new(alloc, name.as_bytes())?;

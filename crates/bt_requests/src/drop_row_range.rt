@@ -1,16 +1,19 @@
 //! The request DropRowRange.
 ghost use Rattle.std.specs.Prelude.{◌≡◌, IfOk};
-ghost use Rattle.serde_json.specs.View.{view};
+ghost use Rattle.bt_json.specs.View.{view};
 ghost use Rattle.bt_requests.specs.Readers.{IsInOrder, drop_row_range, target_in};
 
 use crate::named_table::named_table;
 use crate::request::{DropTarget, Request};
 use bt_base::OutOfMemory;
+use bt_json::Value;
 use bt_members::{bytes_or_empty, is_yes, names, value_at};
-use serde_json::Value;
 use std::alloc::Global;
 
-pub(crate) fn drop_row_range(alloc: Global, value: &Value) -> Result<Option<Request>, OutOfMemory>
+pub(crate) fn drop_row_range(
+    alloc: Global,
+    value: &Value<'_>,
+) -> Result<Option<Request>, OutOfMemory>
     ensures exact { IfOk result (λ r. r ≡ drop_row_range (view value.now)) }
     ensures order { IfOk result IsInOrder }
 {
@@ -21,7 +24,7 @@ pub(crate) fn drop_row_range(alloc: Global, value: &Value) -> Result<Option<Requ
     Ok(Some(Request::DropRowRange { name, target }))
 }
 
-fn target_in(alloc: Global, value: &Value) -> Result<Option<DropTarget>, OutOfMemory>
+fn target_in(alloc: Global, value: &Value<'_>) -> Result<Option<DropTarget>, OutOfMemory>
     ensures { IfOk result (λ t. t ≡ target_in (view value.now)) }
 {
     if let Some(prefix) = value_at(value, names::ROW_KEY_PREFIX) {

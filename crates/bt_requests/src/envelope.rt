@@ -1,12 +1,12 @@
 //! The envelope of a request.
 ghost use Rattle.std.specs.Prelude.{◌≡◌, option_map};
-ghost use Rattle.serde_json.specs.View.{view};
+ghost use Rattle.bt_json.specs.View.{view};
 ghost use Rattle.bt_requests.specs.Envelopes.{Tells, envelope_of, envelope_in, is_envelope, has_method, is_request, has_no_others, method_text, request_in_envelope, or_empty};
 
 use crate::json::{member_count, removed, value_of};
 use crate::method::Method;
 use bt_base::OutOfMemory;
-use serde_json::{Map, Value};
+use bt_json::{Map, Scratch, Value};
 use std::alloc::Global;
 
 /// Why a line has no request.
@@ -34,19 +34,24 @@ impl From<OutOfMemory> for LineRefusal {
 }
 
 /// The method and the request's object of a line `{"method":M,"request":{}}`, which comes without
-/// its line feed. Where the request is null or absent, it is an object without members.
+/// its line feed. Where the request is null or absent, it is an object without members. A string of
+/// the value stands in the line, or where it has escapes in `scratch`.
 /// Each refusal comes exactly where the one before it does not.
-pub fn read_envelope(alloc: Global, line: &[u8]) -> Result<(Method, Value), LineRefusal>
+pub fn read_envelope<'t>(
+    alloc: Global,
+    line: &'t [u8],
+    scratch: &'t mut Scratch,
+) -> Result<(Method, Value<'t>), LineRefusal>
     ensures { Tells (envelope_of line.now) result }
 {
-    match value_of(alloc, line)? {
+    match value_of(alloc, line, scratch)? {
         Some(value) => opened(alloc, value),
         None => Err(LineRefusal::NotJson),
     }
 }
 
-fn opened(alloc: Global, value: Value) -> Result<(Method, Value), LineRefusal>
-    ensures { Tells (envelope_in (view value)) result }
+fn opened<'t>(alloc: Global, value: Value<'t>) -> Result<(Method, Value<'t>), LineRefusal>
+    ensures { Tells (envelope_in (view value.entry)) result }
 {
     if !is_envelope(&value) {
         return Err(LineRefusal::BadEnvelope);
@@ -58,13 +63,13 @@ fn opened(alloc: Global, value: Value) -> Result<(Method, Value), LineRefusal>
     Ok((method, request))
 }
 
-fn is_envelope(value: &Value) -> bool
+fn is_envelope(value: &Value<'_>) -> bool
     ensures { result ≡ is_envelope (view value.now) }
 {
     has_method(value) && is_request(value.get("request")) && has_no_others(value)
 }
 
-fn has_method(value: &Value) -> bool
+fn has_method(value: &Value<'_>) -> bool
     ensures { result ≡ has_method (view value.now) }
 {
     match value.get("method") {
@@ -73,7 +78,7 @@ fn has_method(value: &Value) -> bool
     }
 }
 
-fn is_request(request: Option<&Value>) -> bool
+fn is_request(request: Option<&Value<'_>>) -> bool
     ensures { result ≡ is_request (option_map (λ v. view v.now) request.entry) }
 {
     match request {
@@ -82,14 +87,14 @@ fn is_request(request: Option<&Value>) -> bool
     }
 }
 
-fn has_no_others(value: &Value) -> bool
+fn has_no_others(value: &Value<'_>) -> bool
     ensures { result ≡ has_no_others (view value.now) }
 {
     let known = if value.get("request").is_some() { 2 } else { 1 };
     member_count(value) == Some(known)
 }
 
-fn method_text(value: &Value) -> &str
+fn method_text<'t>(value: &Value<'t>) -> &'t str
     ensures { result.now ≡ method_text (view value.now) }
 {
     match value.get("method") {
@@ -99,8 +104,8 @@ fn method_text(value: &Value) -> &str
 }
 
 // The request's object, moved out.
-fn request_in_envelope(alloc: Global, value: Value) -> Value
-    ensures { view result ≡ request_in_envelope (view value) }
+fn request_in_envelope<'t>(alloc: Global, value: Value<'t>) -> Value<'t>
+    ensures { view result ≡ request_in_envelope (view value.entry) }
 {
     match value {
         Value::Object(mut members) => or_empty(alloc, removed(&mut members, "request")),
@@ -108,8 +113,8 @@ fn request_in_envelope(alloc: Global, value: Value) -> Value
     }
 }
 
-fn or_empty(alloc: Global, request: Option<Value>) -> Value
-    ensures { view result ≡ or_empty (option_map view request) }
+fn or_empty<'t>(alloc: Global, request: Option<Value<'t>>) -> Value<'t>
+    ensures { view result ≡ or_empty (option_map view request.entry) }
 {
     match request {
         Some(Value::Object(members)) => Value::Object(members),

@@ -1,25 +1,25 @@
 //! Filters as requests ask for them (`google.bigtable.v2.RowFilter`).
 ghost use Rattle.std.specs.Prelude.{◌≡◌, IfOk};
-ghost use Rattle.serde_json.specs.View.{view};
+ghost use Rattle.bt_json.specs.View.{view};
 ghost use Rattle.bt_requests.specs.Filters.{flag_in, count_in, qualifiers_in, values_in, times_in, range_in, text_in, filters_in, branch_in, condition_in, kind_in, filter_in, filter_at, predicate_at};
 
 use crate::bounds::bound_of;
 use bt_base::OutOfMemory;
 use bt_filter::{AskedFilter, AskedFilterList};
+use bt_json::Value;
 use bt_members::{
     bytes_or_empty, int32_or_zero, int64_at, is_yes, items_at, names, text_bytes, text_bytes_at,
     value_at,
 };
 use bt_range::ByteRange;
 use bt_walk::Name;
-use serde_json::Value;
 use sqlite_items::Boxed;
 use std::alloc::Global;
 
 const MOST_LEVELS: u8 = 21;
 
 /// The filter of a request, unset where it has none.
-pub(crate) fn filter_at(alloc: Global, value: &Value) -> Result<AskedFilter, OutOfMemory>
+pub(crate) fn filter_at(alloc: Global, value: &Value<'_>) -> Result<AskedFilter, OutOfMemory>
     ensures { IfOk result (λ f. f ≡ filter_at (view value.now)) }
 {
     match value_at(value, names::FILTER) {
@@ -29,7 +29,10 @@ pub(crate) fn filter_at(alloc: Global, value: &Value) -> Result<AskedFilter, Out
 }
 
 /// The predicate of a request, or `None` where it has none.
-pub(crate) fn predicate_at(alloc: Global, value: &Value) -> Result<Option<AskedFilter>, OutOfMemory>
+pub(crate) fn predicate_at(
+    alloc: Global,
+    value: &Value<'_>,
+) -> Result<Option<AskedFilter>, OutOfMemory>
     ensures { IfOk result (λ f. f ≡ predicate_at (view value.now)) }
 {
     match value_at(value, names::PREDICATE_FILTER) {
@@ -41,7 +44,7 @@ pub(crate) fn predicate_at(alloc: Global, value: &Value) -> Result<Option<AskedF
 // The first levels of a filter.
 #[tactic(auto, using(crate::proofs::FilterLevels::no_level, crate::proofs::FilterLevels::one_level))]
 #[cycle(filter_in)]
-fn filter_in(alloc: Global, levels: u8, value: &Value) -> Result<AskedFilter, OutOfMemory>
+fn filter_in(alloc: Global, levels: u8, value: &Value<'_>) -> Result<AskedFilter, OutOfMemory>
     ensures { IfOk result (λ f. f ≡ filter_in levels (view value.now)) }
 {
     if levels == 0 {
@@ -52,7 +55,7 @@ fn filter_in(alloc: Global, levels: u8, value: &Value) -> Result<AskedFilter, Ou
 
 // By the kind that is set, with so many levels below it.
 #[cycle(filter_in)]
-fn kind_in(alloc: Global, below: u8, value: &Value) -> Result<AskedFilter, OutOfMemory>
+fn kind_in(alloc: Global, below: u8, value: &Value<'_>) -> Result<AskedFilter, OutOfMemory>
     ensures { IfOk result (λ f. f ≡ kind_in (filter_in below) (view value.now)) }
 {
     if let Some(found) = value_at(value, names::CHAIN) {
@@ -68,7 +71,7 @@ fn kind_in(alloc: Global, below: u8, value: &Value) -> Result<AskedFilter, OutOf
 }
 
 #[cycle(filter_in)]
-fn filters_in(alloc: Global, levels: u8, value: &Value) -> Result<AskedFilterList, OutOfMemory>
+fn filters_in(alloc: Global, levels: u8, value: &Value<'_>) -> Result<AskedFilterList, OutOfMemory>
     ensures { IfOk result (λ list. list ≡ filters_in (filter_in levels) (view value.now)) }
 {
     let mut filters = AskedFilterList::new(alloc);
@@ -79,7 +82,7 @@ fn filters_in(alloc: Global, levels: u8, value: &Value) -> Result<AskedFilterLis
 }
 
 #[cycle(filter_in)]
-fn condition_in(alloc: Global, levels: u8, value: &Value) -> Result<AskedFilter, OutOfMemory>
+fn condition_in(alloc: Global, levels: u8, value: &Value<'_>) -> Result<AskedFilter, OutOfMemory>
     ensures { IfOk result (λ f. f ≡ condition_in (filter_in levels) (view value.now)) }
 {
     Ok(AskedFilter::Condition {
@@ -93,7 +96,7 @@ fn condition_in(alloc: Global, levels: u8, value: &Value) -> Result<AskedFilter,
 fn branch_at(
     alloc: Global,
     levels: u8,
-    value: &Value,
+    value: &Value<'_>,
     name: Name,
 ) -> Result<Option<Boxed<AskedFilter>>, OutOfMemory>
     ensures { IfOk result (λ f. f ≡ branch_in (filter_in levels) name.0.now name.1.now (view value.now)) }
@@ -107,7 +110,7 @@ fn branch_at(
 }
 
 // By the pattern or the label that is set, or else by a range, a count or a flag.
-fn text_in(alloc: Global, value: &Value) -> Result<AskedFilter, OutOfMemory>
+fn text_in(alloc: Global, value: &Value<'_>) -> Result<AskedFilter, OutOfMemory>
     ensures { IfOk result (λ f. f ≡ text_in (view value.now)) }
 {
     if let Some(found) = value_at(value, names::ROW_KEY_REGEX_FILTER) {
@@ -129,7 +132,7 @@ fn text_in(alloc: Global, value: &Value) -> Result<AskedFilter, OutOfMemory>
 }
 
 // By the range that is set, or else by a count or a flag.
-fn range_in(alloc: Global, value: &Value) -> Result<AskedFilter, OutOfMemory>
+fn range_in(alloc: Global, value: &Value<'_>) -> Result<AskedFilter, OutOfMemory>
     ensures { IfOk result (λ f. f ≡ range_in (view value.now)) }
 {
     if let Some(found) = value_at(value, names::COLUMN_RANGE_FILTER) {
@@ -146,7 +149,7 @@ fn range_in(alloc: Global, value: &Value) -> Result<AskedFilter, OutOfMemory>
     count_in(alloc, value)
 }
 
-fn qualifiers_in(alloc: Global, value: &Value) -> Result<ByteRange, OutOfMemory>
+fn qualifiers_in(alloc: Global, value: &Value<'_>) -> Result<ByteRange, OutOfMemory>
     ensures { IfOk result (λ range. range ≡ qualifiers_in (view value.now)) }
 {
     let closed = value_at(value, names::START_QUALIFIER_CLOSED);
@@ -158,7 +161,7 @@ fn qualifiers_in(alloc: Global, value: &Value) -> Result<ByteRange, OutOfMemory>
     Ok(ByteRange { start, end })
 }
 
-fn values_in(alloc: Global, value: &Value) -> Result<ByteRange, OutOfMemory>
+fn values_in(alloc: Global, value: &Value<'_>) -> Result<ByteRange, OutOfMemory>
     ensures { IfOk result (λ range. range ≡ values_in (view value.now)) }
 {
     let closed = value_at(value, names::START_VALUE_CLOSED);
@@ -170,7 +173,7 @@ fn values_in(alloc: Global, value: &Value) -> Result<ByteRange, OutOfMemory>
     Ok(ByteRange { start, end })
 }
 
-fn times_in(alloc: Global, value: &Value) -> Result<AskedFilter, OutOfMemory>
+fn times_in(alloc: Global, value: &Value<'_>) -> Result<AskedFilter, OutOfMemory>
     ensures { IfOk result (λ f. f ≡ times_in (view value.now)) }
 {
     Ok(AskedFilter::Times {
@@ -180,7 +183,7 @@ fn times_in(alloc: Global, value: &Value) -> Result<AskedFilter, OutOfMemory>
 }
 
 // By the count that is set, or else by a flag.
-fn count_in(alloc: Global, value: &Value) -> Result<AskedFilter, OutOfMemory>
+fn count_in(alloc: Global, value: &Value<'_>) -> Result<AskedFilter, OutOfMemory>
     ensures { IfOk result (λ f. f ≡ count_in (view value.now)) }
 {
     if let Some(found) = value_at(value, names::CELLS_PER_ROW_OFFSET_FILTER) {
@@ -196,7 +199,7 @@ fn count_in(alloc: Global, value: &Value) -> Result<AskedFilter, OutOfMemory>
 }
 
 // By the flag that is set, with its value.
-fn flag_in(value: &Value) -> AskedFilter
+fn flag_in(value: &Value<'_>) -> AskedFilter
     ensures { result ≡ flag_in (view value.now) }
 {
     if let Some(found) = value_at(value, names::PASS_ALL_FILTER) {

@@ -2,35 +2,38 @@
 ghost use Rattle.std.specs.Prelude.{◌≡◌, IfOk, option_map};
 ghost use Rattle.serde_json.specs.Find.{get_member};
 ghost use Rattle.serde_json.specs.Read.{read};
-ghost use Rattle.serde_json.specs.View.{view, members_view};
+ghost use Rattle.bt_json.specs.View.{view, members_view};
 ghost use Rattle.bt_requests.specs.Envelopes.{value_of, text_of, member_count};
 
 use bt_base::OutOfMemory;
-use serde_json::{Map, Value};
+use bt_json::{Map, ReadRefusal, Scratch, Value, read};
 use std::alloc::Global;
 use std::str;
 
-pub(crate) fn value_of(alloc: Global, line: &[u8]) -> Result<Option<Value>, OutOfMemory>
+pub(crate) fn value_of<'t>(
+    alloc: Global,
+    line: &'t [u8],
+    scratch: &'t mut Scratch,
+) -> Result<Option<Value<'t>>, OutOfMemory>
     ensures { IfOk result (λ v. option_map view v ≡ value_of line.now) }
 {
     match text_of(line) {
-        Some(text) => parsed(alloc, text),
+        Some(text) => parsed(alloc, text, scratch),
         None => Ok(None),
     }
 }
 
-fn parsed(alloc: Global, text: &str) -> Result<Option<Value>, OutOfMemory>
+fn parsed<'t>(
+    alloc: Global,
+    text: &'t str,
+    scratch: &'t mut Scratch,
+) -> Result<Option<Value<'t>>, OutOfMemory>
     ensures { IfOk result (λ v. option_map view v ≡ read text.now) }
 {
-    match Value::from_str(alloc, text) {
+    match read(alloc, text, scratch) {
         Ok(value) => Ok(Some(value)),
-        Err(error) => {
-            if error.is_memory() {
-                Err(OutOfMemory)
-            } else {
-                Ok(None)
-            }
-        }
+        Err(ReadRefusal::IllFormed) => Ok(None),
+        Err(ReadRefusal::OutOfMemory) => Err(OutOfMemory),
     }
 }
 
@@ -43,7 +46,7 @@ fn text_of(line: &[u8]) -> Option<&str>
     }
 }
 
-pub(crate) fn member_count(value: &Value) -> Option<usize>
+pub(crate) fn member_count(value: &Value<'_>) -> Option<usize>
     ensures { result ≡ member_count (view value.now) }
 {
     match value.as_object() {
@@ -53,7 +56,7 @@ pub(crate) fn member_count(value: &Value) -> Option<usize>
 }
 
 // The member of that name, taken out.
-pub(crate) fn removed(members: &mut Map<String, Value>, name: &str) -> Option<Value>
+pub(crate) fn removed<'t>(members: &mut Map<'t>, name: &str) -> Option<Value<'t>>
     ensures { option_map view result ≡ get_member name.now (members_view members.old.entries) }
 {
     members.remove(name)

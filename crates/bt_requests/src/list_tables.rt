@@ -1,17 +1,17 @@
 //! The request ListTables.
 ghost use Rattle.std.specs.Prelude.{◌≡◌, IfOk};
-ghost use Rattle.serde_json.specs.View.{view};
+ghost use Rattle.bt_json.specs.View.{view};
 ghost use Rattle.bt_types.specs.Grammar.{is_parent, lawful};
 ghost use Rattle.bt_requests.specs.Readers.{IsInOrder, list_tables};
 
 use crate::request::Request;
 use bt_base::OutOfMemory;
+use bt_json::Value;
 use bt_members::{names, text_at};
 use bt_types::{TableName, Text};
-use serde_json::Value;
 use std::alloc::Global;
 
-pub(crate) fn list_tables(alloc: Global, value: &Value) -> Result<Option<Request>, OutOfMemory>
+pub(crate) fn list_tables(alloc: Global, value: &Value<'_>) -> Result<Option<Request>, OutOfMemory>
     ensures exact { IfOk result (λ r. r ≡ list_tables (view value.now)) }
     ensures order { IfOk result IsInOrder }
 {

@@ -1,6 +1,6 @@
 //! The request ModifyColumnFamilies.
 ghost use Rattle.std.specs.Prelude.{◌≡◌, IfOk};
-ghost use Rattle.serde_json.specs.View.{view, items_view};
+ghost use Rattle.bt_json.specs.View.{view, items_view};
 ghost use Rattle.bt_requests.specs.Readers.{IsInOrder, modify_column_families, modifications_in, modification, change_in};
 
 use crate::families::{FamilyChange, Modification, ModificationList};
@@ -8,13 +8,13 @@ use crate::named_table::named_table;
 use crate::request::Request;
 use crate::rules::rule_of_family;
 use bt_base::OutOfMemory;
+use bt_json::Value;
 use bt_members::{is_yes, items_at, names, text_bytes_at, value_at};
-use serde_json::Value;
 use std::alloc::Global;
 
 pub(crate) fn modify_column_families(
     alloc: Global,
-    value: &Value,
+    value: &Value<'_>,
 ) -> Result<Option<Request>, OutOfMemory>
     ensures exact { IfOk result (λ r. r ≡ modify_column_families (view value.now)) }
     ensures order { IfOk result IsInOrder }
@@ -26,7 +26,7 @@ pub(crate) fn modify_column_families(
     Ok(Some(Request::ModifyColumnFamilies { name, changes }))
 }
 
-fn modifications_in(alloc: Global, items: &[Value]) -> Result<ModificationList, OutOfMemory>
+fn modifications_in(alloc: Global, items: &[Value<'_>]) -> Result<ModificationList, OutOfMemory>
     ensures { IfOk result (λ list. list ≡ modifications_in (items_view items.now)) }
 {
     let mut list = ModificationList::new(alloc);
@@ -36,7 +36,7 @@ fn modifications_in(alloc: Global, items: &[Value]) -> Result<ModificationList, 
     Ok(list)
 }
 
-fn modification(alloc: Global, value: &Value) -> Result<Modification, OutOfMemory>
+fn modification(alloc: Global, value: &Value<'_>) -> Result<Modification, OutOfMemory>
     ensures { IfOk result (λ m. m ≡ modification (view value.now)) }
 {
     Ok(Modification {
@@ -45,7 +45,7 @@ fn modification(alloc: Global, value: &Value) -> Result<Modification, OutOfMemor
     })
 }
 
-fn change_in(alloc: Global, value: &Value) -> Result<FamilyChange, OutOfMemory>
+fn change_in(alloc: Global, value: &Value<'_>) -> Result<FamilyChange, OutOfMemory>
     ensures { IfOk result (λ c. c ≡ change_in (view value.now)) }
 {
     if let Some(family) = value_at(value, names::CREATE) {

@@ -1,19 +1,19 @@
 //! The requests MutateRow and MutateRows, and mutations.
 ghost use Rattle.std.specs.Prelude.{◌≡◌, IfOk};
-ghost use Rattle.serde_json.specs.View.{view, items_view};
+ghost use Rattle.bt_json.specs.View.{view, items_view};
 ghost use Rattle.bt_requests.specs.Readers.{IsInOrder, mutate_row, mutate_rows, entries_in, entry, mutations_in, mutation_in, set_cell, delete_from_column, bound_of};
 
 use crate::request::Request;
 use crate::rows::{AskedEntry, AskedEntryList};
 use bt_base::OutOfMemory;
+use bt_json::Value;
 use bt_members::{bytes_at, int64_at, items_at, names, text_at, text_bytes_at, value_at};
 use bt_mutation::{AskedMutation, AskedMutationList};
 use bt_types::TableName;
 use bt_walk::Name;
-use serde_json::Value;
 use std::alloc::Global;
 
-pub(crate) fn mutate_row(alloc: Global, value: &Value) -> Result<Option<Request>, OutOfMemory>
+pub(crate) fn mutate_row(alloc: Global, value: &Value<'_>) -> Result<Option<Request>, OutOfMemory>
     ensures exact { IfOk result (λ r. r ≡ mutate_row (view value.now)) }
     ensures order { IfOk result IsInOrder }
 {
@@ -27,7 +27,7 @@ pub(crate) fn mutate_row(alloc: Global, value: &Value) -> Result<Option<Request>
     }))
 }
 
-pub(crate) fn mutate_rows(alloc: Global, value: &Value) -> Result<Option<Request>, OutOfMemory>
+pub(crate) fn mutate_rows(alloc: Global, value: &Value<'_>) -> Result<Option<Request>, OutOfMemory>
     ensures exact { IfOk result (λ r. r ≡ mutate_rows (view value.now)) }
     ensures order { IfOk result IsInOrder }
 {
@@ -38,7 +38,7 @@ pub(crate) fn mutate_rows(alloc: Global, value: &Value) -> Result<Option<Request
     Ok(Some(Request::MutateRows { name, entries }))
 }
 
-fn entries_in(alloc: Global, items: &[Value]) -> Result<AskedEntryList, OutOfMemory>
+fn entries_in(alloc: Global, items: &[Value<'_>]) -> Result<AskedEntryList, OutOfMemory>
     ensures { IfOk result (λ list. list ≡ entries_in (items_view items.now)) }
 {
     let mut list = AskedEntryList::new(alloc);
@@ -48,7 +48,7 @@ fn entries_in(alloc: Global, items: &[Value]) -> Result<AskedEntryList, OutOfMem
     Ok(list)
 }
 
-fn entry(alloc: Global, value: &Value) -> Result<AskedEntry, OutOfMemory>
+fn entry(alloc: Global, value: &Value<'_>) -> Result<AskedEntry, OutOfMemory>
     ensures { IfOk result (λ e. e ≡ entry (view value.now)) }
 {
     Ok(AskedEntry {
@@ -58,7 +58,10 @@ fn entry(alloc: Global, value: &Value) -> Result<AskedEntry, OutOfMemory>
 }
 
 /// The mutations of a list.
-pub(crate) fn mutations_in(alloc: Global, items: &[Value]) -> Result<AskedMutationList, OutOfMemory>
+pub(crate) fn mutations_in(
+    alloc: Global,
+    items: &[Value<'_>],
+) -> Result<AskedMutationList, OutOfMemory>
     ensures { IfOk result (λ list. list ≡ mutations_in (items_view items.now)) }
 {
     let mut list = AskedMutationList::new(alloc);
@@ -68,7 +71,7 @@ pub(crate) fn mutations_in(alloc: Global, items: &[Value]) -> Result<AskedMutati
     Ok(list)
 }
 
-fn mutation_in(alloc: Global, value: &Value) -> Result<AskedMutation, OutOfMemory>
+fn mutation_in(alloc: Global, value: &Value<'_>) -> Result<AskedMutation, OutOfMemory>
     ensures { IfOk result (λ m. m ≡ mutation_in (view value.now)) }
 {
     if let Some(set) = value_at(value, names::SET_CELL) {
@@ -87,7 +90,7 @@ fn mutation_in(alloc: Global, value: &Value) -> Result<AskedMutation, OutOfMemor
     Ok(AskedMutation::Missing)
 }
 
-fn set_cell(alloc: Global, value: &Value) -> Result<AskedMutation, OutOfMemory>
+fn set_cell(alloc: Global, value: &Value<'_>) -> Result<AskedMutation, OutOfMemory>
     ensures { IfOk result (λ m. m ≡ set_cell (view value.now)) }
 {
     Ok(AskedMutation::SetCell {
@@ -98,7 +101,7 @@ fn set_cell(alloc: Global, value: &Value) -> Result<AskedMutation, OutOfMemory>
     })
 }
 
-fn delete_from_column(alloc: Global, value: &Value) -> Result<AskedMutation, OutOfMemory>
+fn delete_from_column(alloc: Global, value: &Value<'_>) -> Result<AskedMutation, OutOfMemory>
     ensures { IfOk result (λ m. m ≡ delete_from_column (view value.now)) }
 {
     Ok(AskedMutation::DeleteColumn {
@@ -110,7 +113,7 @@ fn delete_from_column(alloc: Global, value: &Value) -> Result<AskedMutation, Out
 }
 
 // A bound of the time range; without a range it is 0.
-fn bound_at(alloc: Global, value: &Value, name: Name) -> Result<i64, OutOfMemory>
+fn bound_at(alloc: Global, value: &Value<'_>, name: Name) -> Result<i64, OutOfMemory>
     ensures { IfOk result (λ n. n ≡ bound_of name.0.now name.1.now (view value.now)) }
 {
     match value_at(value, names::TIME_RANGE) {

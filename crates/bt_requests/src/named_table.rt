@@ -1,17 +1,17 @@
 //! The requests GetTable, DeleteTable and UpdateTable.
 ghost use Rattle.std.specs.Prelude.{◌≡◌, IfOk};
-ghost use Rattle.serde_json.specs.View.{view};
+ghost use Rattle.bt_json.specs.View.{view};
 ghost use Rattle.bt_requests.specs.Readers.{IsInOrder, named_table, table_to_update, get_table, delete_table, update_table};
 
 use crate::create_table::retention_in;
 use crate::request::Request;
 use bt_base::OutOfMemory;
+use bt_json::Value;
 use bt_members::{names, text_at, value_at};
 use bt_types::{TableName, Text};
-use serde_json::Value;
 use std::alloc::Global;
 
-pub(crate) fn get_table(alloc: Global, value: &Value) -> Result<Option<Request>, OutOfMemory>
+pub(crate) fn get_table(alloc: Global, value: &Value<'_>) -> Result<Option<Request>, OutOfMemory>
     ensures exact { IfOk result (λ r. r ≡ get_table (view value.now)) }
     ensures order { IfOk result IsInOrder }
 {
@@ -21,7 +21,7 @@ pub(crate) fn get_table(alloc: Global, value: &Value) -> Result<Option<Request>,
     Ok(Some(Request::GetTable { name }))
 }
 
-pub(crate) fn delete_table(alloc: Global, value: &Value) -> Result<Option<Request>, OutOfMemory>
+pub(crate) fn delete_table(alloc: Global, value: &Value<'_>) -> Result<Option<Request>, OutOfMemory>
     ensures exact { IfOk result (λ r. r ≡ delete_table (view value.now)) }
     ensures order { IfOk result IsInOrder }
 {
@@ -31,7 +31,7 @@ pub(crate) fn delete_table(alloc: Global, value: &Value) -> Result<Option<Reques
     Ok(Some(Request::DeleteTable { name }))
 }
 
-pub(crate) fn update_table(alloc: Global, value: &Value) -> Result<Option<Request>, OutOfMemory>
+pub(crate) fn update_table(alloc: Global, value: &Value<'_>) -> Result<Option<Request>, OutOfMemory>
     ensures exact { IfOk result (λ r. r ≡ update_table (view value.now)) }
     ensures order { IfOk result IsInOrder }
 {
@@ -47,7 +47,7 @@ pub(crate) fn update_table(alloc: Global, value: &Value) -> Result<Option<Reques
     }))
 }
 
-fn table_to_update(alloc: Global, value: &Value) -> Result<Option<TableName>, OutOfMemory>
+fn table_to_update(alloc: Global, value: &Value<'_>) -> Result<Option<TableName>, OutOfMemory>
     ensures { IfOk result (λ name. name ≡ table_to_update (view value.now)) }
 {
     match value_at(value, names::TABLE) {
@@ -57,7 +57,10 @@ fn table_to_update(alloc: Global, value: &Value) -> Result<Option<TableName>, Ou
 }
 
 /// The table of the member `name`, or `None` where that is no name of a table.
-pub(crate) fn named_table(alloc: Global, value: &Value) -> Result<Option<TableName>, OutOfMemory>
+pub(crate) fn named_table(
+    alloc: Global,
+    value: &Value<'_>,
+) -> Result<Option<TableName>, OutOfMemory>
     ensures { IfOk result (λ name. name ≡ named_table (view value.now)) }
 {
     TableName::new(alloc, text_at(value, names::NAME))

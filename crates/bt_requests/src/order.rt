@@ -1,6 +1,6 @@
 //! From a method and a value to a request, or to the refusal that comes first.
 ghost use Rattle.std.specs.Prelude.{◌≡◌, IfOk};
-ghost use Rattle.serde_json.specs.View.{view};
+ghost use Rattle.bt_json.specs.View.{view};
 ghost use Rattle.bt_requests.specs.Readers.{HasOrder, IsInOrder};
 ghost use Rattle.bt_requests.specs.Refusals.{Answers};
 ghost use Rattle.bt_requests.specs.Requests.{request_in, message_of, asked_of};
@@ -18,13 +18,17 @@ use crate::read_rows::read_rows;
 use crate::refusal::{RequestRefusal, members_refusal};
 use crate::request::Request;
 use bt_base::OutOfMemory;
+use bt_json::Value;
 use bt_members::kinds;
-use serde_json::Value;
 use std::alloc::Global;
 
 /// What a request asks for. `value` is its object, as `read_envelope` gives it. Each refusal comes
 /// exactly where none of those before it does: `NotBuilt`, `Unsupported`, `BadField`, `BadName`.
-pub fn read_request(alloc: Global, method: Method, value: &Value) -> Result<Request, RequestRefusal>
+pub fn read_request(
+    alloc: Global,
+    method: Method,
+    value: &Value<'_>,
+) -> Result<Request, RequestRefusal>
     ensures exact { Answers (request_in method (view value.now)) result }
     ensures order { IfOk result HasOrder }
 {
@@ -62,7 +66,11 @@ fn message_of(method: Method) -> Option<u8>
 }
 
 // The request of a method, or `None` where a name in it is not lawful.
-fn asked_of(alloc: Global, method: Method, value: &Value) -> Result<Option<Request>, OutOfMemory>
+fn asked_of(
+    alloc: Global,
+    method: Method,
+    value: &Value<'_>,
+) -> Result<Option<Request>, OutOfMemory>
     ensures exact { IfOk result (λ r. r ≡ asked_of method (view value.now)) }
     ensures order { IfOk result IsInOrder }
 {

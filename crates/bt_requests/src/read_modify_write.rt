@@ -1,22 +1,22 @@
 //! The request ReadModifyWriteRow, and its rules.
 ghost use Rattle.std.specs.Prelude.{◌≡◌, IfOk};
-ghost use Rattle.serde_json.specs.View.{view, items_view};
+ghost use Rattle.bt_json.specs.View.{view, items_view};
 ghost use Rattle.bt_requests.specs.ReadModifyWrite.{action_in, rule_in, rules_in, read_modify_write_row};
 ghost use Rattle.bt_requests.specs.Readers.{IsInOrder};
 
 use crate::request::Request;
 use bt_base::OutOfMemory;
+use bt_json::Value;
 use bt_members::{
     bytes_at, bytes_or_empty, int64_at, items_at, names, text_at, text_bytes_at, value_at,
 };
 use bt_rmw::{Action, AskedRule, AskedRuleList};
 use bt_types::TableName;
-use serde_json::Value;
 use std::alloc::Global;
 
 pub(crate) fn read_modify_write_row(
     alloc: Global,
-    value: &Value,
+    value: &Value<'_>,
 ) -> Result<Option<Request>, OutOfMemory>
     ensures exact { IfOk result (λ r. r ≡ read_modify_write_row (view value.now)) }
     ensures order { IfOk result IsInOrder }
@@ -31,7 +31,7 @@ pub(crate) fn read_modify_write_row(
     }))
 }
 
-fn rules_in(alloc: Global, items: &[Value]) -> Result<AskedRuleList, OutOfMemory>
+fn rules_in(alloc: Global, items: &[Value<'_>]) -> Result<AskedRuleList, OutOfMemory>
     ensures { IfOk result (λ list. list ≡ rules_in (items_view items.now)) }
 {
     let mut list = AskedRuleList::new(alloc);
@@ -41,7 +41,7 @@ fn rules_in(alloc: Global, items: &[Value]) -> Result<AskedRuleList, OutOfMemory
     Ok(list)
 }
 
-fn rule_in(alloc: Global, value: &Value) -> Result<AskedRule, OutOfMemory>
+fn rule_in(alloc: Global, value: &Value<'_>) -> Result<AskedRule, OutOfMemory>
     ensures { IfOk result (λ rule. rule ≡ rule_in (view value.now)) }
 {
     Ok(AskedRule {
@@ -51,7 +51,7 @@ fn rule_in(alloc: Global, value: &Value) -> Result<AskedRule, OutOfMemory>
     })
 }
 
-fn action_in(alloc: Global, value: &Value) -> Result<Option<Action>, OutOfMemory>
+fn action_in(alloc: Global, value: &Value<'_>) -> Result<Option<Action>, OutOfMemory>
     ensures { IfOk result (λ action. action ≡ action_in (view value.now)) }
 {
     if let Some(found) = value_at(value, names::APPEND_VALUE) {

@@ -1,13 +1,13 @@
 //! Why a request is refused.
 ghost use Rattle.std.specs.Prelude.{◌≡◌, option_map, IfOk};
-ghost use Rattle.serde_json.specs.View.{view};
+ghost use Rattle.bt_json.specs.View.{view};
 ghost use Rattle.bt_walk.specs.declared.found.Pass.TheVariants.{ForUnsupported, ForBad};
 ghost use Rattle.bt_requests.specs.Refusals.{first_fault, members_refusal};
 
 use bt_base::{Blob, OutOfMemory};
+use bt_json::Value;
 use bt_members::Messages;
 use bt_walk::{Faults, Many, Shape, faults};
-use serde_json::Value;
 use std::alloc::Global;
 
 /// Why a request is refused. A name is that of the first member at fault in preorder.
@@ -41,7 +41,7 @@ impl From<OutOfMemory> for RequestRefusal {
 pub(crate) fn members_refusal(
     alloc: Global,
     message: u8,
-    value: &Value,
+    value: &Value<'_>,
 ) -> Result<Option<RequestRefusal>, OutOfMemory>
     ensures { IfOk result (λ r. r ≡ members_refusal message (view value.now)) }
 {
@@ -58,7 +58,7 @@ pub(crate) fn members_refusal(
 }
 
 #[tactic(auto, unfolding(crate::specs::Refusals::first_fault))]
-fn first_faults<'v>(message: u8, value: &'v Value) -> Faults<'v>
+fn first_faults<'v>(message: u8, value: &'v Value<'_>) -> Faults<'v>
     ensures unsupported { option_map (λ n. n.now) result.unsupported
         ≡ first_fault ForUnsupported message (view value.now) }
     ensures bad { option_map (λ n. n.now) result.bad

@@ -1,16 +1,18 @@
 //! Rows that a request lists, as they are read.
 use crate::Request;
 use crate::read_rows::read_rows;
+use bt_json::{Scratch, read};
 use bt_range::{AskedRange, Bound};
-use serde_json::Value;
 use std::test::Fail;
 
 #[test]
 fn keys_and_ranges_are_listed(rt: HostRuntime) -> Result<(), Fail> {
     let alloc = rt.alloc();
-    let value = Value::from_str(
+    let mut scratch = Scratch::new(alloc);
+    let value = read(
         alloc,
         r#"{"tableName":"projects/p/instances/i/tables/t","rows":{"rowKeys":["cg==",""],"row_ranges":[{"startKeyClosed":"YQ==","endKeyOpen":"Yg=="},{"endKeyClosed":""},{}]},"rowsLimit":"2"}"#,
+        &mut scratch,
     )?;
     let Some(
         Request::ReadRows {

@@ -1,17 +1,17 @@
 //! Sets of rows as requests ask for them (`google.bigtable.v2.RowSet`).
 ghost use Rattle.std.specs.Prelude.{◌≡◌, IfOk};
-ghost use Rattle.serde_json.specs.View.{view};
+ghost use Rattle.bt_json.specs.View.{view};
 ghost use Rattle.bt_requests.specs.RowSets.{keys_at, keys_in, range_in, ranges_at, ranges_in};
 
 use crate::bounds::bound_of;
 use bt_base::{BlobList, OutOfMemory};
+use bt_json::Value;
 use bt_members::{bytes_or_empty, items_at, names, value_at};
 use bt_range::{AskedRange, AskedRangeList};
-use serde_json::Value;
 use std::alloc::Global;
 
 /// The keys that a request lists, none where it has no `rows`.
-pub(crate) fn keys_at(alloc: Global, value: &Value) -> Result<BlobList, OutOfMemory>
+pub(crate) fn keys_at(alloc: Global, value: &Value<'_>) -> Result<BlobList, OutOfMemory>
     ensures { IfOk result (λ keys. keys ≡ keys_at (view value.now)) }
 {
     match value_at(value, names::ROWS) {
@@ -21,7 +21,7 @@ pub(crate) fn keys_at(alloc: Global, value: &Value) -> Result<BlobList, OutOfMem
 }
 
 /// The ranges that a request lists, none where it has no `rows`.
-pub(crate) fn ranges_at(alloc: Global, value: &Value) -> Result<AskedRangeList, OutOfMemory>
+pub(crate) fn ranges_at(alloc: Global, value: &Value<'_>) -> Result<AskedRangeList, OutOfMemory>
     ensures { IfOk result (λ ranges. ranges ≡ ranges_at (view value.now)) }
 {
     match value_at(value, names::ROWS) {
@@ -30,7 +30,7 @@ pub(crate) fn ranges_at(alloc: Global, value: &Value) -> Result<AskedRangeList, 
     }
 }
 
-fn keys_in(alloc: Global, value: &Value) -> Result<BlobList, OutOfMemory>
+fn keys_in(alloc: Global, value: &Value<'_>) -> Result<BlobList, OutOfMemory>
     ensures { IfOk result (λ keys. keys ≡ keys_in (view value.now)) }
 {
     let mut keys = BlobList::new(alloc);
@@ -40,7 +40,7 @@ fn keys_in(alloc: Global, value: &Value) -> Result<BlobList, OutOfMemory>
     Ok(keys)
 }
 
-fn ranges_in(alloc: Global, value: &Value) -> Result<AskedRangeList, OutOfMemory>
+fn ranges_in(alloc: Global, value: &Value<'_>) -> Result<AskedRangeList, OutOfMemory>
     ensures { IfOk result (λ ranges. ranges ≡ ranges_in (view value.now)) }
 {
     let mut ranges = AskedRangeList::new(alloc);
@@ -50,7 +50,7 @@ fn ranges_in(alloc: Global, value: &Value) -> Result<AskedRangeList, OutOfMemory
     Ok(ranges)
 }
 
-fn range_in(alloc: Global, value: &Value) -> Result<AskedRange, OutOfMemory>
+fn range_in(alloc: Global, value: &Value<'_>) -> Result<AskedRange, OutOfMemory>
     ensures { IfOk result (λ range. range ≡ range_in (view value.now)) }
 {
     let closed = value_at(value, names::START_KEY_CLOSED);

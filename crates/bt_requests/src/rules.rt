@@ -1,20 +1,20 @@
 //! Rules of collection as requests ask for them (`google.bigtable.admin.v2.GcRule`).
 ghost use Rattle.std.specs.Prelude.{◌≡◌, [], IfOk, unwrap_or};
-ghost use Rattle.serde_json.specs.View.{view};
+ghost use Rattle.bt_json.specs.View.{view};
 ghost use Rattle.bt_rules.specs.declared.rule.Rule.TheVariants.{Versions, Age, Union};
 ghost use Rattle.bt_requests.specs.Rules.{at_least_zero, rules_in, kind_in, rule_in, rule_of_family};
 ghost use Rattle.bt_members.specs.Values.{int32_or_zero, micros_or_zero};
 
 use bt_base::OutOfMemory;
+use bt_json::Value;
 use bt_members::{int32_or_zero, items_at, micros_or_zero, names, value_at};
 use bt_rules::{Rule, RuleList};
-use serde_json::Value;
 use std::alloc::Global;
 
 const MOST_LEVELS: u8 = 8;
 
 /// The rule of a `ColumnFamily`, or `None` where it has none, or one without a kind.
-pub(crate) fn rule_of_family(alloc: Global, value: &Value) -> Result<Option<Rule>, OutOfMemory>
+pub(crate) fn rule_of_family(alloc: Global, value: &Value<'_>) -> Result<Option<Rule>, OutOfMemory>
     ensures { IfOk result (λ r. r ≡ rule_of_family (view value.now)) }
 {
     match value_at(value, names::GC_RULE) {
@@ -26,7 +26,7 @@ pub(crate) fn rule_of_family(alloc: Global, value: &Value) -> Result<Option<Rule
 // The first levels of a rule.
 #[tactic(auto, using(crate::proofs::RuleLevels::no_level, crate::proofs::RuleLevels::one_level))]
 #[cycle(rule_in)]
-fn rule_in(alloc: Global, levels: u8, value: &Value) -> Result<Option<Rule>, OutOfMemory>
+fn rule_in(alloc: Global, levels: u8, value: &Value<'_>) -> Result<Option<Rule>, OutOfMemory>
     ensures { IfOk result (λ r. r ≡ rule_in levels (view value.now)) }
 {
     if levels == 0 {
@@ -37,7 +37,7 @@ fn rule_in(alloc: Global, levels: u8, value: &Value) -> Result<Option<Rule>, Out
 
 // By the kind that is set, with so many levels below it.
 #[cycle(rule_in)]
-fn kind_in(alloc: Global, below: u8, value: &Value) -> Result<Option<Rule>, OutOfMemory>
+fn kind_in(alloc: Global, below: u8, value: &Value<'_>) -> Result<Option<Rule>, OutOfMemory>
     ensures { IfOk result (λ r. r ≡ kind_in (rule_in below) (view value.now)) }
 {
     if let Some(found) = value_at(value, names::MAX_NUM_VERSIONS) {
@@ -56,7 +56,7 @@ fn kind_in(alloc: Global, below: u8, value: &Value) -> Result<Option<Rule>, OutO
 }
 
 #[cycle(rule_in)]
-fn rules_in(alloc: Global, levels: u8, value: &Value) -> Result<RuleList, OutOfMemory>
+fn rules_in(alloc: Global, levels: u8, value: &Value<'_>) -> Result<RuleList, OutOfMemory>
     ensures { IfOk result (λ list. list ≡ rules_in (rule_in levels) (view value.now)) }
 {
     let mut rules = RuleList::new(alloc);
@@ -76,14 +76,14 @@ fn or_empty_union(alloc: Global, rule: Option<Rule>) -> Rule
     }
 }
 
-fn versions_in(alloc: Global, value: &Value) -> Result<Rule, OutOfMemory>
+fn versions_in(alloc: Global, value: &Value<'_>) -> Result<Rule, OutOfMemory>
     ensures { IfOk result (λ r. r ≡ Versions (at_least_zero (int32_or_zero (view value.now)))) }
 {
     let count = int32_or_zero(alloc, value)?;
     Ok(Rule::Versions(if count < 0 { 0 } else { count as u32 }))
 }
 
-fn age_in(alloc: Global, value: &Value) -> Result<Rule, OutOfMemory>
+fn age_in(alloc: Global, value: &Value<'_>) -> Result<Rule, OutOfMemory>
     ensures { IfOk result (λ r. r ≡ Age (at_least_zero (micros_or_zero (view value.now)))) }
 {
     let micros = micros_or_zero(alloc, value)?;

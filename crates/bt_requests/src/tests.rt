@@ -1,12 +1,14 @@
 //! Requests, as they are read.
 use super::*;
+use bt_json::Scratch;
 use bt_mutation::AskedMutation;
 use bt_rmw::Action;
 use std::alloc::Global;
 use std::test::Fail;
 
 fn asked(alloc: Global, line: &str) -> Result<Request, Fail> {
-    let (method, value) = read_envelope(alloc, line.as_bytes())?;
+    let mut scratch = Scratch::new(alloc);
+    let (method, value) = read_envelope(alloc, line.as_bytes(), &mut scratch)?;
     Ok(read_request(alloc, method, &value)?)
 }
 
@@ -58,7 +60,9 @@ fn an_amount_and_an_empty_value_are_actions(rt: HostRuntime) -> Result<(), Fail>
 
 #[test]
 fn a_line_without_a_request_has_an_empty_one(rt: HostRuntime) -> Result<(), Fail> {
-    let (method, value) = read_envelope(rt.alloc(), br#"{"method":"GetTable"}"#)?;
+    let mut scratch = Scratch::new(rt.alloc());
+    let line = br#"{"method":"GetTable"}"#;
+    let (method, value) = read_envelope(rt.alloc(), line, &mut scratch)?;
     assert_eq!(rt; method, Method::GetTable);
     assert!(rt; value.is_object());
     Ok(())

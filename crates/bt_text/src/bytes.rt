@@ -2,9 +2,8 @@
 ghost use Rattle.std.specs.Prelude.{◌≡◌, ◌++◌, map, replicate, IfOk, is_some};
 ghost use Rattle.std.specs.List.{list_any};
 ghost use Rattle.base64.specs.Engines.{standard};
-ghost use Rattle.base64.specs.GeneralPurpose.{decoded_of, encode_of};
-ghost use Rattle.serde_json.specs.Data.{string};
-ghost use Rattle.serde_json.specs.View.{view};
+ghost use Rattle.base64.specs.GeneralPurpose.{decoded_of};
+ghost use Rattle.bt_json.specs.View.{view};
 ghost use Rattle.bt_text.specs.Bytes.{bytes_in, bytes_of_text, is_standard_text, is_url_safe_digit, missing_padding, standard_digit};
 ghost use Rattle.bt_text.specs.Refusal.{Gives};
 
@@ -13,14 +12,14 @@ use crate::refusal::FieldRefusal;
 use base64::DecodeAllocError;
 use base64::engine::general_purpose::STANDARD;
 use bt_base::{Blob, OutOfMemory};
-use serde_json::Value;
+use bt_json::Value;
 use std::alloc::Global;
 use std::iter::repeat_n;
 
 /// The bytes of a field of type bytes: a string of base64 in the standard or the URL-safe alphabet
 /// (RFC 4648, sections 4 and 5), with or without padding (protobuf documentation, "ProtoJSON
 /// Format", bytes). `BadField` carries `name`.
-pub fn read_bytes(alloc: Global, value: &Value, name: &str) -> Result<Blob, FieldRefusal>
+pub fn read_bytes(alloc: Global, value: &Value<'_>, name: &str) -> Result<Blob, FieldRefusal>
     ensures { Gives name.now (bytes_in (view value.now)) result }
 {
     let Some(text) = value.as_str() else {
@@ -34,7 +33,7 @@ pub fn read_bytes(alloc: Global, value: &Value, name: &str) -> Result<Blob, Fiel
 }
 
 /// Whether `read_bytes` gives bytes. Takes no memory.
-pub fn is_bytes(value: &Value) -> bool
+pub fn is_bytes(value: &Value<'_>) -> bool
     ensures { result ≡ is_some (bytes_in (view value.now)) }
 {
     match value.as_str() {
@@ -108,12 +107,4 @@ fn standard_decoded(alloc: Global, text: &[u8]) -> Result<Option<Blob>, OutOfMem
         Err(DecodeAllocError::OutOfMemory) => Err(OutOfMemory),
         Err(DecodeAllocError::DecodeError(_)) => Ok(None),
     }
-}
-
-/// The bytes as a string of base64 in the standard alphabet with padding (RFC 4648, section 4).
-pub fn print_bytes(alloc: Global, bytes: &[u8]) -> Result<Value, OutOfMemory>
-    ensures { IfOk result (λ v. view v ≡ string (encode_of standard bytes.now)) }
-{
-    let text = STANDARD.encode(alloc, bytes)?;
-    Ok(Value::String(text))
 }

@@ -1,13 +1,13 @@
 //! Spans of time, which JSON has as seconds with a fraction.
 ghost use Rattle.std.specs.Prelude.{◌≡◌, ◌<◌, ◌≤◌, ◌^◌, IfSome, is_some, length, position};
-ghost use Rattle.serde_json.specs.View.{view};
+ghost use Rattle.bt_json.specs.View.{view};
 ghost use Rattle.bt_text.specs.Duration.{duration_in, duration_text, is_dot, micros_up_to_bound, seconds_text, signed_seconds_text, whole_len};
 ghost use Rattle.bt_text.specs.Refusal.{Gives};
 
 use crate::fraction::fraction_in;
 use crate::numerals::numeral;
 use crate::refusal::FieldRefusal;
-use serde_json::Value;
+use bt_json::Value;
 use std::alloc::Global;
 
 const GREATEST_SECONDS: u64 = 315_576_000_000;
@@ -16,7 +16,7 @@ const GREATEST_SECONDS: u64 = 315_576_000_000;
 /// seconds, optionally `.` and 1 to 9 digits, and `s`, at most 315,576,000,000 seconds either way
 /// (protobuf documentation, "ProtoJSON Format", Duration). Digits beyond microseconds are cut towards
 /// zero; the bound is that of the whole text. `BadField` carries `name`.
-pub fn read_duration(alloc: Global, value: &Value, name: &str) -> Result<i64, FieldRefusal>
+pub fn read_duration(alloc: Global, value: &Value<'_>, name: &str) -> Result<i64, FieldRefusal>
     ensures { Gives name.now (duration_in (view value.now)) result }
 {
     let Some(micros) = duration_in(value) else {
@@ -26,13 +26,13 @@ pub fn read_duration(alloc: Global, value: &Value, name: &str) -> Result<i64, Fi
 }
 
 /// Whether `read_duration` gives a number. Takes no memory.
-pub fn is_duration(value: &Value) -> bool
+pub fn is_duration(value: &Value<'_>) -> bool
     ensures { result ≡ is_some (duration_in (view value.now)) }
 {
     duration_in(value).is_some()
 }
 
-fn duration_in(value: &Value) -> Option<i64>
+fn duration_in(value: &Value<'_>) -> Option<i64>
     ensures { result ≡ duration_in (view value.now) }
 {
     duration_of(value.as_str()?.as_bytes())

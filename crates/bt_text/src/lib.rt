@@ -16,7 +16,7 @@ mod printing;
 mod refusal;
 mod timestamp;
 
-pub use bytes::{is_bytes, is_standard_text, print_bytes, read_bytes};
+pub use bytes::{is_bytes, is_standard_text, read_bytes};
 pub use duration::{is_duration, read_duration};
 pub use enums::{is_enum, read_enum};
 pub use laws::{
@@ -24,7 +24,7 @@ pub use laws::{
     printed_numbers_are_read, standard_text_is_decoded_as_it_is, years_begin,
 };
 pub use members::check_members;
-pub use numbers::{are_int64_digits, is_int32, is_int64, print_int64, read_int32, read_int64};
-pub use printing::{print_duration, print_timestamp};
+pub use numbers::{are_int64_digits, is_int32, is_int64, read_int32, read_int64};
+pub use printing::{print_bytes, print_duration, print_int64, print_timestamp};
 pub use refusal::FieldRefusal;
 pub use timestamp::{is_timestamp, read_timestamp};

@@ -1,12 +1,12 @@
 //! The members of JSON objects, by their names.
 ghost use Rattle.std.specs.Prelude.{◌≡◌, bytes_eq, option_map};
-ghost use Rattle.serde_json.specs.View.{view, members_view};
+ghost use Rattle.bt_json.specs.View.{view, members_view};
 ghost use Rattle.bt_text.specs.Members.{Passes, first_fault, holds, is_doubled, is_fault, members_fault};
 ghost use Rattle.bt_text.specs.Names.{listed, original_name};
 
 use crate::names::{is_json_name, is_listed, is_original};
 use crate::refusal::FieldRefusal;
-use serde_json::{Map, Value};
+use bt_json::{Map, Value};
 use std::alloc::Global;
 
 /// Whether `value` is an object with members of the list `names` alone, each by one name. `names` is a
@@ -18,7 +18,7 @@ use std::alloc::Global;
 /// and is told, a doubled one stands at its JSON name, which is told.
 pub fn check_members(
     alloc: Global,
-    value: &Value,
+    value: &Value<'_>,
     name: &str,
     names: &str,
 ) -> Result<(), FieldRefusal>
@@ -33,31 +33,31 @@ pub fn check_members(
     }
 }
 
-fn first_fault<'m>(members: &'m Map<String, Value>, names: &[u8]) -> Option<&'m str>
+fn first_fault<'m>(members: &'m Map<'_>, names: &[u8]) -> Option<&'m str>
     ensures { option_map (λ s. s.now) result
         ≡ first_fault (listed names.now) (members_view members.now.entries) (members_view members.now.entries) }
 {
     for (key, _value) in members.iter() {
         if is_fault(members, names, key.as_bytes()) {
-            return Some(key.as_str());
+            return Some(*key);
         }
     }
     None
 }
 
-fn is_fault(members: &Map<String, Value>, names: &[u8], key: &[u8]) -> bool
+fn is_fault(members: &Map<'_>, names: &[u8], key: &[u8]) -> bool
     ensures { result ≡ is_fault (listed names.now) (members_view members.now.entries) key.now }
 {
     !is_listed(names, key) || (is_json_name(names, key) && is_doubled(members, key))
 }
 
-fn is_doubled(members: &Map<String, Value>, name: &[u8]) -> bool
+fn is_doubled(members: &Map<'_>, name: &[u8]) -> bool
     ensures { result ≡ is_doubled (members_view members.now.entries) name.now }
 {
     !is_original(name, name) && holds_name(members, name) && holds_original(members, name)
 }
 
-fn holds_name(members: &Map<String, Value>, name: &[u8]) -> bool
+fn holds_name(members: &Map<'_>, name: &[u8]) -> bool
     ensures { result ≡ holds (λ k. bytes_eq k name.now) (members_view members.now.entries) }
 {
     for (key, value) in members.iter() {
@@ -68,7 +68,7 @@ fn holds_name(members: &Map<String, Value>, name: &[u8]) -> bool
     false
 }
 
-fn holds_original(members: &Map<String, Value>, name: &[u8]) -> bool
+fn holds_original(members: &Map<'_>, name: &[u8]) -> bool
     ensures { result ≡ holds (λ k. bytes_eq (original_name name.now) k) (members_view members.now.entries) }
 {
     for (key, value) in members.iter() {

@@ -1,8 +1,6 @@
 //! Numbers of 64 bits with a sign, which JSON has as text.
-ghost use Rattle.std.specs.Prelude.{◌≡◌, IfOk, is_some};
-ghost use Rattle.std.specs.Fmt.{signed_decimal};
-ghost use Rattle.serde_json.specs.Data.{string};
-ghost use Rattle.serde_json.specs.View.{view};
+ghost use Rattle.std.specs.Prelude.{◌≡◌, is_some};
+ghost use Rattle.bt_json.specs.View.{view};
 ghost use Rattle.bt_text.specs.Int32.{as_int32, int32_in};
 ghost use Rattle.bt_text.specs.Int64.{int64_in, int64_text, is_digits, positive, negative};
 ghost use Rattle.bt_text.specs.Refusal.{Gives};
@@ -10,13 +8,13 @@ ghost use Rattle.bt_text.specs.Refusal.{Gives};
 use crate::numerals::{is_numeral, numeral};
 use crate::refusal::FieldRefusal;
 use bt_base::OutOfMemory;
-use serde_json::Value;
+use bt_json::Value;
 use std::alloc::Global;
 
 /// The number of a field of type int64: a string of an optional `-` and 1 to 19 decimal digits, or a
 /// JSON number without fraction or exponent (protobuf documentation, "ProtoJSON Format", int64).
 /// `BadField` carries `name`. The number `-0` is refused, the string `"-0"` is zero.
-pub fn read_int64(alloc: Global, value: &Value, name: &str) -> Result<i64, FieldRefusal>
+pub fn read_int64(alloc: Global, value: &Value<'_>, name: &str) -> Result<i64, FieldRefusal>
     ensures { Gives name.now (int64_in (view value.now)) result }
 {
     let Some(number) = number_in(value) else {
@@ -27,7 +25,7 @@ pub fn read_int64(alloc: Global, value: &Value, name: &str) -> Result<i64, Field
 
 /// The number of a field of type int32: what `read_int64` reads, in the range of 32 bits with a sign
 /// (protobuf documentation, "ProtoJSON Format", int32). `BadField` carries `name`.
-pub fn read_int32(alloc: Global, value: &Value, name: &str) -> Result<i32, FieldRefusal>
+pub fn read_int32(alloc: Global, value: &Value<'_>, name: &str) -> Result<i32, FieldRefusal>
     ensures { Gives name.now (int32_in (view value.now)) result }
 {
     let Some(number) = short_number_in(value) else {
@@ -37,20 +35,20 @@ pub fn read_int32(alloc: Global, value: &Value, name: &str) -> Result<i32, Field
 }
 
 /// Whether `read_int64` gives a number. Takes no memory.
-pub fn is_int64(value: &Value) -> bool
+pub fn is_int64(value: &Value<'_>) -> bool
     ensures { result ≡ is_some (int64_in (view value.now)) }
 {
     number_in(value).is_some()
 }
 
 /// Whether `read_int32` gives a number. Takes no memory.
-pub fn is_int32(value: &Value) -> bool
+pub fn is_int32(value: &Value<'_>) -> bool
     ensures { result ≡ is_some (int32_in (view value.now)) }
 {
     short_number_in(value).is_some()
 }
 
-pub(crate) fn short_number_in(value: &Value) -> Option<i32>
+pub(crate) fn short_number_in(value: &Value<'_>) -> Option<i32>
     ensures { result ≡ int32_in (view value.now) }
 {
     to_int32(number_in(value)?)
@@ -66,7 +64,7 @@ fn to_int32(number: i64) -> Option<i32>
     }
 }
 
-fn number_in(value: &Value) -> Option<i64>
+fn number_in(value: &Value<'_>) -> Option<i64>
     ensures { result ≡ int64_in (view value.now) }
 {
     match value.as_str() {
@@ -113,12 +111,4 @@ pub fn are_int64_digits(text: &str) -> bool
     ensures { result ≡ is_digits text.now }
 {
     is_numeral(19, text.as_bytes())
-}
-
-/// The number as a string in decimal, as a field of type int64 is written.
-pub fn print_int64(alloc: Global, number: i64) -> Result<Value, OutOfMemory>
-    ensures { IfOk result (λ v. view v ≡ string (signed_decimal number)) }
-{
-    let text = number.to_string(alloc)?;
-    Ok(Value::String(text))
 }

@@ -1,10 +1,14 @@
-//! Moments and spans of time, printed.
+//! Fields, printed: bytes, numbers, moments and spans of time.
 ghost use Rattle.std.specs.Prelude.{◌≡◌, ◌+◌, ◌/◌, ◌≤◌, ◌∷◌, [], ◌++◌, IfOk, OnOk, string_bytes, unsigned_abs};
+ghost use Rattle.std.specs.Fmt.{signed_decimal};
+ghost use Rattle.base64.specs.Engines.{standard};
+ghost use Rattle.base64.specs.GeneralPurpose.{encode_of};
 ghost use Rattle.serde_json.specs.Data.{string};
 ghost use Rattle.serde_json.specs.View.{view};
 ghost use Rattle.bt_text.specs.Printed.{IsMoment, IsMomentPrinted, clock_printed, date_printed, duration_printed, four_places, fraction_printed, last_digit, three_places, two_places};
 
 use crate::calendar::date_of;
+use base64::engine::general_purpose::STANDARD;
 use bt_base::OutOfMemory;
 use jiff_core::civil;
 use serde_json::Value;
@@ -13,6 +17,22 @@ use std::alloc::Global;
 const SECOND: u64 = 1_000_000;
 
 const DAY: u64 = 86_400_000_000;
+
+/// The bytes as a string of base64 in the standard alphabet with padding (RFC 4648, section 4).
+pub fn print_bytes(alloc: Global, bytes: &[u8]) -> Result<Value, OutOfMemory>
+    ensures { IfOk result (λ v. view v ≡ string (encode_of standard bytes.now)) }
+{
+    let text = STANDARD.encode(alloc, bytes)?;
+    Ok(Value::String(text))
+}
+
+/// The number as a string in decimal, as a field of type int64 is written.
+pub fn print_int64(alloc: Global, number: i64) -> Result<Value, OutOfMemory>
+    ensures { IfOk result (λ v. view v ≡ string (signed_decimal number)) }
+{
+    let text = number.to_string(alloc)?;
+    Ok(Value::String(text))
+}
 
 /// The moment of so many microseconds since 1970, as a string by RFC 3339 in UTC with `Z` and a
 /// fraction of 0, 3 or 6 digits, the shortest that is exact (protobuf documentation, "ProtoJSON

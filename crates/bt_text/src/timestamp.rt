@@ -1,6 +1,6 @@
 //! Moments, which JSON has as dates and times of day.
 ghost use Rattle.std.specs.Prelude.{◌≡◌, ◌+◌, ◌<◌, ◌≤◌, ◌*◌, IfSome, is_some, length};
-ghost use Rattle.serde_json.specs.View.{view};
+ghost use Rattle.bt_json.specs.View.{view};
 ghost use Rattle.bt_text.specs.Refusal.{Gives};
 ghost use Rattle.bt_text.specs.Timestamp.{clock_text, days_text, has_marks, in_utc, in_years, instant_text, is_zulu, local_text, numeric_offset, offset_text, signed_offset, since_1970, timestamp_in, timestamp_text, zone_place};
 ghost use Rattle.bt_text.specs.Offsets.{IsSmall};
@@ -9,7 +9,7 @@ use crate::calendar::{ALL_DAYS, DAY_OF_1970, day_number};
 use crate::fraction::fraction_in;
 use crate::numerals::{field, two_digits};
 use crate::refusal::FieldRefusal;
-use serde_json::Value;
+use bt_json::Value;
 use std::alloc::Global;
 
 const DAY_SECONDS: u64 = 86_400;
@@ -29,7 +29,7 @@ pub(crate) enum Offset {
 /// the hour is at most 23, the minute and the second are at most 59, and in UTC the instant lies in
 /// the years 1 to 9999 (protobuf documentation, "ProtoJSON Format", Timestamp). Digits beyond
 /// microseconds are cut down to the earlier microsecond. `BadField` carries `name`.
-pub fn read_timestamp(alloc: Global, value: &Value, name: &str) -> Result<i64, FieldRefusal>
+pub fn read_timestamp(alloc: Global, value: &Value<'_>, name: &str) -> Result<i64, FieldRefusal>
     ensures { Gives name.now (timestamp_in (view value.now)) result }
 {
     let Some(micros) = timestamp_in(value) else {
@@ -39,13 +39,13 @@ pub fn read_timestamp(alloc: Global, value: &Value, name: &str) -> Result<i64, F
 }
 
 /// Whether `read_timestamp` gives a number. Takes no memory.
-pub fn is_timestamp(value: &Value) -> bool
+pub fn is_timestamp(value: &Value<'_>) -> bool
     ensures { result ≡ is_some (timestamp_in (view value.now)) }
 {
     timestamp_in(value).is_some()
 }
 
-fn timestamp_in(value: &Value) -> Option<i64>
+fn timestamp_in(value: &Value<'_>) -> Option<i64>
     ensures { result ≡ timestamp_in (view value.now) }
 {
     timestamp_of(value.as_str()?.as_bytes())

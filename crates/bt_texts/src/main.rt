@@ -2,19 +2,20 @@
 //!
 //! A line is a kind and what follows a blank: `int64 JSON`, and so `int32`, `bytes`, `timestamp` and
 //! `duration`; `is_int64 JSON` and the other tests likewise; `enum NAMES JSON`, `is_enum NAMES JSON` and
-//! `members NAMES JSON`; `are_int64_digits TEXT` and `is_standard_text TEXT`; `print_int64 NUMBER`,
+//! `members NAMES JSON`; `is_json TEXT`, and `serde_json TEXT` for whether that crate reads it, which
+//! takes the time of reading alone; `are_int64_digits TEXT` and `is_standard_text TEXT`; `print_int64 NUMBER`,
 //! `print_bytes TEXT`, `print_timestamp NUMBER` and `print_duration NUMBER`. The answer is a number,
 //! bytes in hexadecimal, `ok`, `yes`, `no`, a JSON text, or `bad` with the name that the refusal tells,
 //! where the field is called `field`.
 #![tactic(auto)]
 
 use bt_base::{Blob, OutOfMemory};
+use bt_json::{ReadRefusal, Scratch, Value};
 use bt_text::{
     FieldRefusal, are_int64_digits, check_members, is_bytes, is_duration, is_enum, is_int32,
     is_int64, is_standard_text, is_timestamp, print_bytes, print_duration, print_int64,
     print_timestamp, read_bytes, read_duration, read_enum, read_int32, read_int64, read_timestamp,
 };
-use serde_json::Value;
 use std::alloc::Global;
 use std::io::{Read, Write};
 use std::process::ExitCode;
@@ -86,21 +87,27 @@ fn members(alloc: Global, checked: Result<(), FieldRefusal>) -> Result<String, O
     }
 }
 
-fn value_of(alloc: Global, text: &str) -> Result<Option<Value>, OutOfMemory> {
-    match Value::from_str(alloc, text) {
+fn value_of<'t>(
+    alloc: Global,
+    text: &'t str,
+    scratch: &'t mut Scratch,
+) -> Result<Option<Value<'t>>, OutOfMemory> {
+    match bt_json::read(alloc, text, scratch) {
         Ok(value) => Ok(Some(value)),
-        Err(error) => {
-            if error.is_memory() {
-                Err(OutOfMemory)
-            } else {
-                Ok(None)
-            }
-        }
+        Err(ReadRefusal::IllFormed) => Ok(None),
+        Err(ReadRefusal::OutOfMemory) => Err(OutOfMemory),
     }
 }
 
+fn is_json(alloc: Global, text: &str) -> Result<String, OutOfMemory> {
+    let mut scratch = Scratch::new(alloc);
+    let value = value_of(alloc, text, &mut scratch)?;
+    tested(alloc, value.is_some())
+}
+
 fn read(alloc: Global, kind: &str, text: &str) -> Result<String, OutOfMemory> {
-    let Some(value) = value_of(alloc, text)? else {
+    let mut scratch = Scratch::new(alloc);
+    let Some(value) = value_of(alloc, text, &mut scratch)? else {
         return said(alloc, "no JSON");
     };
     match kind {
@@ -113,7 +120,7 @@ fn read(alloc: Global, kind: &str, text: &str) -> Result<String, OutOfMemory> {
     }
 }
 
-fn test(kind: &str, value: &Value) -> bool {
+fn test(kind: &str, value: &Value<'_>) -> bool {
     match kind {
         "is_int64" => is_int64(value),
         "is_int32" => is_int32(value),
@@ -131,7 +138,8 @@ fn read_with_names(alloc: Global, kind: &str, rest: &str) -> Result<String, OutO
     let Some((names, text)) = rest.split_once(' ') else {
         return said(alloc, "no names");
     };
-    let Some(value) = value_of(alloc, text)? else {
+    let mut scratch = Scratch::new(alloc);
+    let Some(value) = value_of(alloc, text, &mut scratch)? else {
         return said(alloc, "no JSON");
     };
     match kind {
@@ -141,7 +149,10 @@ fn read_with_names(alloc: Global, kind: &str, rest: &str) -> Result<String, OutO
     }
 }
 
-fn printed(alloc: Global, printed: Result<Value, OutOfMemory>) -> Result<String, OutOfMemory> {
+fn printed(
+    alloc: Global,
+    printed: Result<serde_json::Value, OutOfMemory>,
+) -> Result<String, OutOfMemory> {
     let text = printed?.to_string(alloc)?;
     Ok(text)
 }
@@ -179,6 +190,8 @@ fn print(alloc: Global, kind: &str, text: &str) -> Result<String, OutOfMemory> {
 fn answer(alloc: Global, kind: &str, rest: &str) -> Result<String, OutOfMemory> {
     match kind {
         "enum" | "is_enum" | "members" => read_with_names(alloc, kind, rest),
+        "is_json" => is_json(alloc, rest),
+        "serde_json" => tested(alloc, serde_json::Value::from_str(alloc, rest).is_ok()),
         "are_int64_digits" => tested(alloc, are_int64_digits(rest)),
         "is_standard_text" => tested(alloc, is_standard_text(rest)),
         _ if kind.starts_with("print_") => print(alloc, kind, rest),

@@ -1,6 +1,6 @@
 -- An object of one entry, which has only the members that the entry's key names.
 use Rattle.std.proofs.Common.{◌≡◌, ℕ, Bool, true, false, List, [], ◌∷◌, Some, None, cond, length, refl, sym, ap, ◌∙◌, arith}
-use Rattle.std.specs.Prelude.{◌&&◌, ◌||◌, ◌==◌, not, bytes_eq, slice_get, String, string_bytes}
+use Rattle.std.specs.Prelude.{◌&&◌, ◌||◌, ◌==◌, not, bytes_eq, slice_get}
 use Rattle.std.specs.Ordering.{is_eq, nat_cmp, match_ordering}
 use Rattle.std.specs.declared.cmp.Ordering.{Ordering}
 use Rattle.std.specs.declared.cmp.Ordering.TheVariants.{Less, Equal, Greater}
@@ -8,22 +8,21 @@ use Rattle.std.specs.Cmp.Lexicographic.{slice_cmp}
 use Rattle.std.proofs.lemmas.Map.Text.{is_eq-slice_cmp}
 use Rattle.std.proofs.lemmas.Bool.{ne_eqb, eq-eqb}
 use Rattle.std.proofs.lemmas.Cmp.{nat_list_eq_equiv}
-use Rattle.std.specs.declared.alloc.Global.{Global}
 use Rattle.serde_json.specs.Data.{Data, object}
 use Rattle.serde_json.specs.Find.{get}
-use Rattle.serde_json.specs.View.{view, members_view}
-use Rattle.serde_json.specs.declared.value.Value.{Value}
+use Rattle.bt_json.specs.View.{view, members_view}
+use Rattle.bt_json.proofs.Views.{Entry}
 use Rattle.bt_walk.specs.Alone.{alone}
 use Rattle.bt_walk.specs.Members.{is_absent, is_there, is_plain, is_renamed, is_set, has_choice, is_too_many}
 use Rattle.bt_walk.specs.Shapes.{Field, is_named}
 use Rattle.bt_walk.specs.declared.shape.Support.{Support}
 
-pub only : (es : List (String Global × Value)) (e : String Global × Value) → length es ≡ 1 → slice_get es 0 ≡ Some e → object (members_view es) ≡ alone (string_bytes e.0) (view e.1)
+pub only : (es : List Entry) (e : Entry) → length es ≡ 1 → slice_get es 0 ≡ Some e → object (members_view es) ≡ alone e.0.now (view e.1)
 only [] e one first = cc one
 only (x ∷ []) e one first = by (cc first)
   where
-    by : x ≡ e → object (members_view (x ∷ [])) ≡ alone (string_bytes e.0) (view e.1)
-    by same = ap (λ y. alone (string_bytes y.0) (view y.1)) same
+    by : x ≡ e → object (members_view (x ∷ [])) ≡ alone e.0.now (view e.1)
+    by same = ap (λ y. alone y.0.now (view y.1)) same
 only (x ∷ y ∷ es) e one first = absurd (omega (arith, one))
 
 at_order : (d : Data) (o : Ordering) → match_ordering o None (Some d) None ≡ cond (is_eq o) (Some d) None

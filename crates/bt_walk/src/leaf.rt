@@ -1,13 +1,13 @@
 //! Values that are not walked into.
 ghost use Rattle.std.specs.Prelude.{◌≡◌, option_map};
-ghost use Rattle.serde_json.specs.View.{view};
+ghost use Rattle.bt_json.specs.View.{view};
 ghost use Rattle.serde_json.specs.Find.{as_str};
 ghost use Rattle.bt_walk.specs.Values.{fits, leaf, is_zero, is_blank, has_nothing};
 ghost use Rattle.bt_walk.specs.declared.found.Pass.TheVariants.{ForBad};
 
 use crate::shape::{Many, Schema, Shape};
+use bt_json::Value;
 use bt_text::{is_bytes, is_duration, is_enum, is_int32, is_int64};
-use serde_json::Value;
 
 /// What is bad of a value that has no parts of its shape.
 pub(crate) fn bad_leaf<'v, S: Schema>(
@@ -15,7 +15,7 @@ pub(crate) fn bad_leaf<'v, S: Schema>(
     many: Many,
     shape: Shape,
     name: &'v str,
-    value: &Value,
+    value: &Value<'_>,
 ) -> Option<&'v str>
     ensures { option_map (λ n. n.now) result
         ≡ leaf (S.Schema.table schema.now).names ForBad many shape name.now (view value.now) }
@@ -27,7 +27,7 @@ pub(crate) fn bad_leaf<'v, S: Schema>(
 }
 
 /// Whether the value has no parts and is in the grammar of its shape.
-pub(crate) fn fits<S: Schema>(schema: &S, shape: Shape, value: &Value) -> bool
+pub(crate) fn fits<S: Schema>(schema: &S, shape: Shape, value: &Value<'_>) -> bool
     ensures { result ≡ fits (S.Schema.table schema.now).names shape (view value.now) }
 {
     match shape {
@@ -45,7 +45,7 @@ pub(crate) fn fits<S: Schema>(schema: &S, shape: Shape, value: &Value) -> bool
 }
 
 /// Whether the value is false, 0, "0", "" or [].
-pub(crate) fn is_zero(value: &Value) -> bool
+pub(crate) fn is_zero(value: &Value<'_>) -> bool
     ensures { result ≡ is_zero (view value.now) }
 {
     value.as_bool() == Some(false)
@@ -54,7 +54,7 @@ pub(crate) fn is_zero(value: &Value) -> bool
         || has_nothing(value)
 }
 
-fn is_blank(value: &Value) -> bool
+fn is_blank(value: &Value<'_>) -> bool
     ensures { result ≡ is_blank (as_str (view value.now)) }
 {
     match value.as_str() {
@@ -63,8 +63,11 @@ fn is_blank(value: &Value) -> bool
     }
 }
 
-fn has_nothing(value: &Value) -> bool
+fn has_nothing(value: &Value<'_>) -> bool
     ensures { result ≡ has_nothing (view value.now) }
 {
-    value.is_array() && value.get(0).is_none()
+    match value.as_array() {
+        Some(items) => items.is_empty(),
+        None => false,
+    }
 }

@@ -3,7 +3,7 @@ ghost use Rattle.std.specs.Prelude.{[], map};
 ghost use Rattle.bt_walk.specs.Shapes.{seen};
 
 use super::*;
-use serde_json::Value;
+use bt_json::{Scratch, read};
 use std::alloc::Global;
 use std::test::Fail;
 
@@ -57,7 +57,8 @@ static MEMBERS: [Member; 9] = [
 ];
 
 fn told(alloc: Global, text: &str) -> Result<String, Fail> {
-    let value = Value::from_str(alloc, text)?;
+    let mut scratch = Scratch::new(alloc);
+    let value = read(alloc, text, &mut scratch)?;
     let schema = Sample { members: &MEMBERS };
     let shape = Shape::Of(0);
     let found = faults(&schema, Many::One, shape, "it", &value);

@@ -1,6 +1,6 @@
 //! The walk.
 ghost use Rattle.std.specs.Prelude.{◌≡◌, None, map, option_map};
-ghost use Rattle.serde_json.specs.View.{view, items_view, members_view};
+ghost use Rattle.bt_json.specs.View.{view, items_view, members_view};
 ghost use Rattle.bt_walk.specs.Shapes.{seen};
 ghost use Rattle.bt_walk.specs.Faults.{fault_at, name_of};
 ghost use Rattle.bt_walk.specs.Walk.{fault, items_fault, entries_fault, members_fault, member_fault};
@@ -10,7 +10,7 @@ use crate::found::{Faults, first, name_of, within};
 use crate::leaf::bad_leaf;
 use crate::member::{is_absent, is_too_many, is_unsupported};
 use crate::shape::{Many, Member, Schema, Shape, named};
-use serde_json::{Map, Value};
+use bt_json::{Map, Value};
 
 /// The first faults of a value of that shape, in preorder: the members of an object in byte order of
 /// their JSON names (an unknown one by its own), the items of an array by index. Each is told by the
@@ -23,7 +23,7 @@ pub fn faults<'v, S: Schema>(
     many: Many,
     shape: Shape,
     name: &'v str,
-    value: &'v Value,
+    value: &'v Value<'_>,
 ) -> Faults<'v>
     ensures unsupported { option_map (λ n. n.now) result.unsupported
         ≡ fault (S.Schema.table schema.now) ForUnsupported many shape name.now (view value.now) }
@@ -49,7 +49,7 @@ fn items_faults<'v, S: Schema>(
     schema: &S,
     shape: Shape,
     name: &'v str,
-    items: &'v Vec<Value>,
+    items: &'v Vec<Value<'_>>,
 ) -> Faults<'v>
     ensures unsupported { option_map (λ n. n.now) result.unsupported
         ≡ items_fault (S.Schema.table schema.now) ForUnsupported shape name.now
@@ -74,7 +74,7 @@ fn entries_faults<'v, S: Schema>(
     schema: &S,
     shape: Shape,
     name: &'v str,
-    entries: &'v Map<String, Value>,
+    entries: &'v Map<'_>,
 ) -> Faults<'v>
     ensures unsupported { option_map (λ n. n.now) result.unsupported
         ≡ entries_fault (S.Schema.table schema.now) ForUnsupported shape name.now
@@ -100,8 +100,8 @@ fn entries_faults<'v, S: Schema>(
 fn members_faults<'v, S: Schema>(
     schema: &S,
     members: &'static [Member],
-    entries: &'v Map<String, Value>,
-    whole: &'v Value,
+    entries: &'v Map<'_>,
+    whole: &'v Value<'_>,
 ) -> Faults<'v>
     ensures unsupported { option_map (λ n. n.now) result.unsupported
         ≡ name_of (members_fault (S.Schema.table schema.now) ForUnsupported (map seen members.now)
@@ -113,7 +113,7 @@ fn members_faults<'v, S: Schema>(
     let mut unsupported = None;
     let mut bad = None;
     for (key, value) in entries.iter() {
-        let (place, here) = member_faults(schema, members, key.as_str(), value, whole);
+        let (place, here) = member_faults(schema, members, *key, value, whole);
         unsupported = first(unsupported, within(place, here.unsupported));
         bad = first(bad, within(place, here.bad));
     }
@@ -129,8 +129,8 @@ fn member_faults<'v, S: Schema>(
     schema: &S,
     members: &'static [Member],
     key: &'v str,
-    value: &'v Value,
-    whole: &'v Value,
+    value: &'v Value<'_>,
+    whole: &'v Value<'_>,
 ) -> (&'v str, Faults<'v>)
     ensures unsupported { option_map (λ n. fault_at result.0.now n.now) result.1.unsupported
         ≡ member_fault (S.Schema.table schema.now) ForUnsupported (map seen members.now)

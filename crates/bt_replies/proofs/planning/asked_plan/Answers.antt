@@ -1,6 +1,6 @@
 use Rattle.std.proofs.Common.{◌≡◌, rules}
 use Rattle.std.specs.Prelude.{Err}
-use Rattle.serde_json.specs.View.{view}
+use Rattle.bt_json.specs.View.{view}
 use Rattle.bt_replies.proofs.Replying.{plan_of_one}
 use Rattle.bt_replies.specs.Lines.{request_refusal_line}
 use Rattle.bt_plans.specs.Replies.{refused_by}

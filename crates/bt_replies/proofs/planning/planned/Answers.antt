@@ -5,7 +5,7 @@ use Rattle.bt_plans.specs.Replies.{refused}
 use Rattle.bt_requests.specs.Envelopes.{envelope_of}
 use Rattle.bt_replies.proofs.planning.planned.Goals as goal
 
-pub returns-in-Err : goal.returns-in-Err
-returns-in-Err c =
+pub returns : goal.returns
+returns c =
     let is : envelope_of c.args.line.now ≡ Err c.in-Err.refusal = search rules in
     rw is (refused (envelope_refusal c.in-Err.refusal), refl, search rules)

@@ -1,5 +1,5 @@
 use Rattle.std.proofs.Common.{◌≡◌, List, sym, subst, rules}
-use Rattle.serde_json.specs.View.{members_view}
+use Rattle.bt_json.specs.View.{members_view}
 use Rattle.bt_requests.specs.Readers.{Ascend, families_of}
 use Rattle.bt_requests.specs.declared.families.AskedFamily.{AskedFamily}
 use Rattle.bt_requests.proofs.FamilyOrder.{families_ascend}

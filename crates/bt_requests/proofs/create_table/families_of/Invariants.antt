@@ -1,5 +1,5 @@
 use Rattle.std.proofs.Common.{◌≡◌, ◌++◌}
-use Rattle.serde_json.specs.View.{members_view}
+use Rattle.bt_json.specs.View.{members_view}
 use Rattle.bt_requests.specs.Readers.{families_of}
 use Rattle.bt_requests.proofs.create_table.families_of.Given as goal
 

@@ -1,4 +1,4 @@
-use Rattle.serde_json.specs.View.{view}
+use Rattle.bt_json.specs.View.{view}
 use Rattle.bt_requests.proofs.Looks.{count_members}
 use Rattle.bt_requests.proofs.json.member_count.Goals as goal
 

@@ -1,6 +1,6 @@
 use Rattle.std.proofs.Common.{option_map, ap, ◌∙◌}
-use Rattle.serde_json.specs.View.{view}
-use Rattle.serde_json.proofs.Views.{view-lookup}
+use Rattle.bt_json.specs.View.{view}
+use Rattle.bt_json.proofs.Views.{view-lookup}
 use Rattle.bt_requests.proofs.json.removed.Goals as goal
 
 pub returns : goal.returns

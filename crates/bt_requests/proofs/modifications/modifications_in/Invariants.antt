@@ -1,5 +1,5 @@
 use Rattle.std.proofs.Common.{◌≡◌, ◌++◌, drop}
-use Rattle.serde_json.specs.View.{items_view}
+use Rattle.bt_json.specs.View.{items_view}
 use Rattle.bt_requests.specs.Readers.{modifications_in}
 use Rattle.bt_requests.proofs.modifications.modifications_in.Given as goal
 

@@ -1,5 +1,5 @@
 use Rattle.std.proofs.Common.{◌≡◌, ◌++◌, drop}
-use Rattle.serde_json.specs.View.{items_view}
+use Rattle.bt_json.specs.View.{items_view}
 use Rattle.bt_requests.specs.Readers.{mutations_in}
 use Rattle.bt_requests.proofs.mutations.mutations_in.Given as goal
 

@@ -1,5 +1,5 @@
 use Rattle.std.proofs.Common.{◌≡◌, ◌++◌, drop}
-use Rattle.serde_json.specs.View.{items_view}
+use Rattle.bt_json.specs.View.{items_view}
 use Rattle.bt_requests.specs.ReadModifyWrite.{rules_in}
 use Rattle.bt_requests.proofs.read_modify_write.rules_in.Given as goal
 

@@ -1,5 +1,5 @@
 use Rattle.std.proofs.Common.{◌≡◌, ◌++◌, drop}
-use Rattle.serde_json.specs.View.{items_view}
+use Rattle.bt_json.specs.View.{items_view}
 use Rattle.bt_requests.specs.RowSets.{each_key}
 use Rattle.bt_requests.proofs.row_sets.keys_in.Given as goal
 

@@ -1,5 +1,5 @@
 use Rattle.std.proofs.Common.{◌≡◌, ◌++◌, drop}
-use Rattle.serde_json.specs.View.{items_view}
+use Rattle.bt_json.specs.View.{items_view}
 use Rattle.bt_requests.specs.RowSets.{each_range}
 use Rattle.bt_requests.proofs.row_sets.ranges_in.Given as goal
 

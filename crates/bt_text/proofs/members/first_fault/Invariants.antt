@@ -1,5 +1,5 @@
 use Rattle.std.proofs.Common.{◌≡◌}
-use Rattle.serde_json.specs.View.{members_view}
+use Rattle.bt_json.specs.View.{members_view}
 use Rattle.bt_text.specs.Members.{first_fault}
 use Rattle.bt_text.specs.Names.{listed}
 use Rattle.bt_text.proofs.members.first_fault.Given as goal

@@ -1,5 +1,5 @@
 use Rattle.std.proofs.Common.{◌≡◌, bytes_eq}
-use Rattle.serde_json.specs.View.{members_view}
+use Rattle.bt_json.specs.View.{members_view}
 use Rattle.bt_text.specs.Members.{holds}
 use Rattle.bt_text.specs.Names.{original_name}
 use Rattle.bt_text.proofs.members.holds_original.Given as goal

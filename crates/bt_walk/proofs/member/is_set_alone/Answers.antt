@@ -1,5 +1,5 @@
 use Rattle.std.proofs.Common.{ap, sym, not, ◌∙◌}
-use Rattle.serde_json.specs.View.{view}
+use Rattle.bt_json.specs.View.{view}
 use Rattle.bt_walk.specs.Shapes.{seen}
 use Rattle.bt_walk.proofs.Alone.{set_if_named, unset_if_not}
 use Rattle.bt_walk.proofs.member.is_set_alone.Goals as goal

@@ -1,6 +1,6 @@
 use Rattle.std.proofs.Common.{ap, map, not, ◌∙◌}
 use Rattle.std.proofs.lemmas.Bool.{eq-eqb}
-use Rattle.serde_json.specs.View.{view}
+use Rattle.bt_json.specs.View.{view}
 use Rattle.bt_walk.specs.Shapes.{seen}
 use Rattle.bt_walk.proofs.Alone.{too_many_by_choice, never_too_many}
 use Rattle.bt_walk.proofs.member.is_too_many.Goals as goal

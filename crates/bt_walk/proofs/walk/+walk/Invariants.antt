@@ -1,5 +1,5 @@
 use Rattle.std.proofs.Common.{◌≡◌, None, drop, map, option_map}
-use Rattle.serde_json.specs.View.{view, items_view, members_view}
+use Rattle.bt_json.specs.View.{view, items_view, members_view}
 use Rattle.bt_walk.specs.Shapes.{seen}
 use Rattle.bt_walk.specs.Faults.{told}
 use Rattle.bt_walk.specs.Walk.{or_else, items_fault, entries_fault, members_fault}
