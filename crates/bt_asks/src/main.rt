@@ -1,8 +1,10 @@
 //! Reads each line of standard input as a request, and prints `ok` or why it is refused.
 #![tactic(auto)]
 
-use bt_json::{Scratch, Value};
-use bt_requests::{LineRefusal, Method, RequestRefusal, read_envelope, read_request};
+use bt_json::Scratch;
+use bt_requests::{
+    LineRefusal, Method, RequestObject, RequestRefusal, read_envelope, read_request,
+};
 use std::alloc::{AllocError, Global};
 use std::io::Read;
 use std::process::ExitCode;
@@ -13,8 +15,12 @@ fn named(alloc: Global, text: &str, name: &[u8]) -> Result<String, AllocError> {
     format!(in alloc; "{text} {name}")
 }
 
-fn request_answer(alloc: Global, method: Method, value: &Value<'_>) -> Result<String, AllocError> {
-    match read_request(alloc, method, value) {
+fn request_answer(
+    alloc: Global,
+    method: Method,
+    object: &RequestObject<'_>,
+) -> Result<String, AllocError> {
+    match read_request(alloc, method, object) {
         Ok(_) => String::from_str(alloc, "ok"),
         Err(RequestRefusal::NotBuilt) => String::from_str(alloc, "not built"),
         Err(RequestRefusal::Unsupported { name }) => named(alloc, "unsupported", name.bytes()),
@@ -27,7 +33,7 @@ fn request_answer(alloc: Global, method: Method, value: &Value<'_>) -> Result<St
 fn answer(alloc: Global, line: &[u8]) -> Result<String, AllocError> {
     let mut scratch = Scratch::new(alloc);
     match read_envelope(alloc, line, &mut scratch) {
-        Ok((method, value)) => request_answer(alloc, method, &value),
+        Ok((method, object)) => request_answer(alloc, method, &object),
         Err(LineRefusal::NotJson) => String::from_str(alloc, "not json"),
         Err(LineRefusal::BadEnvelope) => String::from_str(alloc, "bad envelope"),
         Err(LineRefusal::UnknownMethod) => String::from_str(alloc, "unknown method"),

@@ -1,5 +1,5 @@
 -- The turns of reading, seen as data: what one item or member adds to those before it.
-use Rattle.std.proofs.Common.{◌≡◌, ℕ, zero, suc, ◌-◌, ◌<◌, ◌≤◌, List, [], ◌∷◌, ◌++◌, length, Option, Some, None, option_map, option_and_then, refl, ap, ◌∙◌}
+use Rattle.std.proofs.Common.{◌≡◌, ℕ, zero, suc, ◌-◌, ◌<◌, ◌≤◌, List, [], ◌∷◌, ◌++◌, length, Result, Ok, Err, IfOk, Option, Some, None, option_map, option_and_then, refl, ap, ◌∙◌}
 use Rattle.json.specs.Token.{Token}
 use Rattle.json.specs.Json as json
 use Rattle.json.specs.Json.{Parse, parse_map, after_end_array, read_key, items_step, items, members}
@@ -119,3 +119,7 @@ one_more vs v (Some p) = ap (λ ds. Some (ds, p.1)) (one_later vs v p.0)
 pub as_it_is : (r : Option (Items × List Token)) → r ≡ parse_map (λ a. a) r
 as_it_is None = refl
 as_it_is (Some p) = refl
+
+pub if_ok_map : {A E : Type 0} {P Q : A → Type 0} (r : Result A E) → ((a : A) → P a → Q a) → IfOk r P → IfOk r Q
+if_ok_map (Ok a) f h = f a h
+if_ok_map (Err e) f h = tt

@@ -27,7 +27,7 @@ view_step (Value-F.Bool b) = boolean b
 view_step (Value-F.Number x) = number (number_view x)
 view_step (Value-F.String s) = string s.now
 view_step (Value-F.Array v) = array (items_of v.items)
-view_step (Value-F.Object m) = object (members_of m.entries)
+view_step (Value-F.Object m) = object (members_of m.items)
 
 abbrev pub view : Value → Data
 view = fold-Value Data view_step

@@ -1,18 +1,23 @@
 //! Reading a text.
-ghost use Rattle.std.specs.Prelude.{◌≡◌, ◌<◌, None, Some, IfOk, OnOk, length, option_map};
+ghost use Rattle.std.specs.Prelude.{◌≡◌, ◌<◌, ◌≤◌, ℕ, None, Some, IfOk, OnOk, length, option_map};
 ghost use Rattle.json.specs.Json.{items, members, value};
 ghost use Rattle.serde_json.specs.Data.{no_members};
 ghost use Rattle.serde_json.specs.Read.{converted, of_items, of_json, of_members, read};
 ghost use Rattle.bt_json.specs.Refusals.{IsIllFormed};
 ghost use Rattle.bt_json.specs.View.{items_view, members_view, view};
 
+use crate::gathering::{from_map, put, to_map};
 use crate::number::Number;
-use crate::value::{Map, Value};
+use crate::value::{Members, Value};
 use json::{Invalid, Reader, Scratch, Token};
 use std::alloc::{AllocError, AllocFailed, Global};
+use std::collections::BTreeMap;
 
 // Arrays and objects nest no deeper.
 const MOST_LEVELS: usize = 127;
+
+// An object with more members is gathered in a map, since in a list each may move all others.
+const MOST_IN_LIST: usize = 32;
 
 /// Why a text is not read.
 #[derive(Clone, Copy, Debug, PartialEq, Eq)]
@@ -131,15 +136,38 @@ fn read_members<'t>(
     alloc: Global,
     reader: &mut Reader<'t>,
     depth: usize,
-) -> Result<Map<'t>, ReadRefusal>
-    ensures ok { IfOk result (λ m. converted (λ ms. of_members ms no_members) (members (value depth) (length reader.old) reader.old) ≡ Some (members_view m.entries, reader.new)) }
+) -> Result<Members<'t>, ReadRefusal>
+    ensures ok { IfOk result (λ m. converted (λ ms. of_members ms no_members) (members (value depth) (length reader.old) reader.old) ≡ Some (members_view m.items, reader.new)) }
     ensures shorter { OnOk result (length reader.new < length reader.old) }
     ensures ill_formed { IsIllFormed result → converted (λ ms. of_members ms no_members) (members (value depth) (length reader.old) reader.old) ≡ None }
 {
-    let mut found = Map::new(alloc);
+    let mut found = Vec::new(alloc);
+    'members: while let Some(name) = reader.next_key()? {
+        let member = read_value(alloc, reader, depth)?;
+        put(&mut found, name, member)?;
+        if found.len() == MOST_IN_LIST {
+            let map = to_map(alloc, found)?;
+            return read_more_members(alloc, reader, depth, map);
+        }
+    }
+    Ok(found)
+}
+
+// The members that follow many others.
+#[cycle(read)]
+fn read_more_members<'t>(
+    alloc: Global,
+    reader: &mut Reader<'t>,
+    depth: usize,
+    mut found: BTreeMap<&'t str, Value<'t>>,
+) -> Result<Members<'t>, ReadRefusal>
+    ensures ok { (n : ℕ) → length reader.old ≤ n → IfOk result (λ m. converted (λ ms. of_members ms (members_view found.entry.entries)) (members (value depth) n reader.old) ≡ Some (members_view m.items, reader.new)) }
+    ensures shorter { OnOk result (length reader.new < length reader.old) }
+    ensures ill_formed { (n : ℕ) → length reader.old ≤ n → IsIllFormed result → converted (λ ms. of_members ms (members_view found.entry.entries)) (members (value depth) n reader.old) ≡ None }
+{
     'members: while let Some(name) = reader.next_key()? {
         let member = read_value(alloc, reader, depth)?;
         drop(found.insert(name, member)?);
     }
-    Ok(found)
+    from_map(alloc, found)
 }

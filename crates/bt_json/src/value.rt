@@ -5,11 +5,10 @@ ghost use Rattle.serde_json.specs.Find.{as_array, as_bool, as_i64, as_null, as_n
 ghost use Rattle.bt_json.specs.View.{items_view, members_view, number_view, view};
 
 use crate::number::Number;
-use std::collections::BTreeMap;
 
-/// The members of an object, in the order of their names. Of a name that comes several times the last
+/// The members of an object, by their names, which ascend. Of a name that comes several times the last
 /// value counts.
-pub type Map<'t> = BTreeMap<&'t str, Value<'t>>;
+pub type Members<'t> = Vec<(&'t str, Value<'t>)>;
 
 /// A JSON value. Its strings are not copied: they stand in the text, or where they have escapes in the
 /// memory that was lent to the reading.
@@ -20,7 +19,7 @@ pub enum Value<'t> {
     Number(Number),
     String(&'t str),
     Array(Vec<Value<'t>>),
-    Object(Map<'t>),
+    Object(Members<'t>),
 }
 
 impl<'t> Value<'t> {
@@ -92,8 +91,8 @@ impl<'t> Value<'t> {
         self.as_object().is_some()
     }
 
-    pub fn as_object(&self) -> Option<&Map<'t>>
-        ensures { option_map (λ m. members_view m.now.entries) result ≡ as_object (view self.now) }
+    pub fn as_object(&self) -> Option<&Members<'t>>
+        ensures { option_map (λ m. members_view m.now.items) result ≡ as_object (view self.now) }
     {
         match self {
             Value::Object(members) => Some(members),
@@ -112,8 +111,13 @@ impl<'t> Value<'t> {
     }
 }
 
-fn member<'v, 't>(members: &'v Map<'t>, name: &str) -> Option<&'v Value<'t>>
-    ensures { option_map (λ v. view v.now) result ≡ get_member name.now (members_view members.now.entries) }
+fn member<'v, 't>(members: &'v [(&'t str, Value<'t>)], name: &str) -> Option<&'v Value<'t>>
+    ensures { option_map (λ v. view v.now) result ≡ get_member name.now (members_view members.now) }
 {
-    members.get(name)
+    for (other, value) in members.iter() {
+        if name == *other {
+            return Some(value);
+        }
+    }
+    None
 }

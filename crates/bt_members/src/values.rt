@@ -5,7 +5,7 @@ ghost use Rattle.bt_json.specs.View.{view, items_view, members_view};
 ghost use Rattle.bt_members.specs.Values.{present, value_of, text_of, text_or_empty, bytes_of, bytes_or_empty, int64_of, int32_or_zero, micros_of, micros_or_zero, is_yes, items_of, items_in, members_of};
 
 use bt_base::{Blob, OutOfMemory};
-use bt_json::{Map, Value};
+use bt_json::{Members, Value};
 use bt_text::{FieldRefusal, read_bytes, read_duration, read_int32, read_int64};
 use bt_walk::Name;
 use std::alloc::Global;
@@ -155,8 +155,8 @@ fn no_items<'v, 't>() -> &'v [Value<'t>]
 }
 
 /// The entries of a member that is a map.
-pub fn members_at<'v, 't>(value: &'v Value<'t>, name: Name) -> Option<&'v Map<'t>>
-    ensures { option_map (λ m. members_view m.now.entries) result
+pub fn members_at<'v, 't>(value: &'v Value<'t>, name: Name) -> Option<&'v Members<'t>>
+    ensures { option_map (λ m. members_view m.now.items) result
         ≡ members_of name.0.now name.1.now (view value.now) }
 {
     match value_at(value, name) {

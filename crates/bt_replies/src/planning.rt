@@ -10,12 +10,14 @@ ghost use Rattle.bt_requests.specs.Requests.{request_in};
 ghost use Rattle.bt_state.specs.State.{Present};
 
 use bt_base::OutOfMemory;
-use bt_json::{Scratch, Value};
+use bt_json::Scratch;
 use bt_messages::{Refusal, bad_field_line, unsupported_line};
 use bt_plans::{Answer, Plan};
 use bt_read_write_replies::check_and_mutate_row::{Check, check_and_mutate_row};
 use bt_read_write_replies::read_modify_write_row::read_modify_write_row;
-use bt_requests::{LineRefusal, Method, Request, RequestRefusal, read_envelope, read_request};
+use bt_requests::{
+    LineRefusal, Method, Request, RequestObject, RequestRefusal, read_envelope, read_request,
+};
 use bt_row_replies::drop_row_range::drop_row_range;
 use bt_row_replies::mutate_row::mutate_row;
 use bt_row_replies::mutate_rows::mutate_rows;
@@ -44,7 +46,7 @@ pub fn planned(
 {
     let mut scratch = Scratch::new(alloc);
     match read_envelope(alloc, line, &mut scratch) {
-        Ok((method, value)) => asked_plan(alloc, present, method, &value, moment),
+        Ok((method, object)) => asked_plan(alloc, present, method, &object, moment),
         Err(LineRefusal::OutOfMemory) => Err(OutOfMemory),
         Err(refusal) => Ok(Plan::refuses(envelope_refusal(refusal))),
     }
@@ -65,14 +67,14 @@ fn asked_plan(
     alloc: Global,
     present: &Present,
     method: Method,
-    value: &Value<'_>,
+    object: &RequestObject<'_>,
     moment: u64,
 ) -> Result<Plan, OutOfMemory>
     requires not_before { present.now.floor ≤ moment }
     requires not_past { moment ≤ last_moment }
-    ensures { IfOk result (λ plan. IsPlanOf plan present.now (IsAskedReply present.now moment (request_in method (view value.now)))) }
+    ensures { IfOk result (λ plan. IsPlanOf plan present.now (IsAskedReply present.now moment (request_in method (view object.now.value)))) }
 {
-    match read_request(alloc, method, value) {
+    match read_request(alloc, method, object) {
         Ok(request) => request_plan(alloc, present, request, moment),
         Err(RequestRefusal::OutOfMemory) => Err(OutOfMemory),
         Err(refusal) => refusal_plan(alloc, refusal),

@@ -1,5 +1,5 @@
 pub mod Looks
-pub mod FamilyOrder
+pub mod InOrder
 pub mod RuleLevels
 pub mod FilterLevels
 pub mod Parents

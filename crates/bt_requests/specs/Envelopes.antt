@@ -6,9 +6,9 @@ use Rattle.serde_json.specs.Events.{members_len}
 use Rattle.serde_json.specs.Find.{get, as_null, as_str, as_object}
 use Rattle.serde_json.specs.Read.{read}
 use Rattle.bt_json.specs.View.{view}
-use Rattle.bt_json.specs.declared.value.Value.{Value}
 use Rattle.bt_requests.specs.Methods.{method_named}
 use Rattle.bt_requests.specs.declared.method.Method.{Method}
+use Rattle.bt_requests.specs.declared.request_object.RequestObject.{RequestObject}
 use Rattle.bt_requests.specs.declared.envelope.LineRefusal.{LineRefusal}
 use Rattle.bt_requests.specs.declared.envelope.LineRefusal.TheVariants.{NotJson, BadEnvelope, UnknownMethod, OutOfMemory}
 
@@ -75,8 +75,8 @@ abbrev pub envelope_of : List ℕ → Result (Method × Data) LineRefusal
 envelope_of line = or_not_json (value_of line)
 
 -- that answer, or want of memory
-abbrev pub Tells : Result (Method × Data) LineRefusal → Result (Method × Value) LineRefusal → Type 0
-Tells answer (Ok (m, v)) = answer ≡ Ok (m, view v)
+abbrev pub Tells : Result (Method × Data) LineRefusal → Result (Method × RequestObject) LineRefusal → Type 0
+Tells answer (Ok (m, r)) = answer ≡ Ok (m, view r.value)
 Tells answer (Err NotJson) = answer ≡ Err NotJson
 Tells answer (Err BadEnvelope) = answer ≡ Err BadEnvelope
 Tells answer (Err UnknownMethod) = answer ≡ Err UnknownMethod

@@ -1,4 +1,5 @@
 pub mod Methods
+pub mod Order
 pub mod Envelopes
 pub mod Rules
 pub mod Bounds

@@ -1,18 +1,20 @@
 //! The request CreateTable.
 ghost use Rattle.std.specs.Prelude.{◌≡◌, IfOk};
 ghost use Rattle.bt_json.specs.View.{view, members_view};
-ghost use Rattle.bt_requests.specs.Readers.{Ascend, IsInOrder, create_table, families_in, families_of, family, retention_in};
+ghost use Rattle.bt_requests.specs.Order.{InOrder};
+ghost use Rattle.bt_requests.specs.Readers.{IsInOrder, create_table, families_in, families_of, family, retention_in};
 
 use crate::families::{AskedFamily, AskedFamilyList};
 use crate::request::Request;
 use crate::rules::rule_of_family;
 use bt_base::{Blob, OutOfMemory};
-use bt_json::{Map, Value};
+use bt_json::{Members, Value};
 use bt_members::{members_at, micros_at, names, text_at, value_at};
 use bt_types::TableName;
 use std::alloc::Global;
 
 pub(crate) fn create_table(alloc: Global, value: &Value<'_>) -> Result<Option<Request>, OutOfMemory>
+    requires in_order { ∥ InOrder (view value.now) ∥₁ }
     ensures exact { IfOk result (λ r. r ≡ create_table (view value.now)) }
     ensures order { IfOk result IsInOrder }
 {
@@ -44,10 +46,8 @@ pub(crate) fn retention_in(alloc: Global, value: &Value<'_>) -> Result<Option<i6
     Ok(Some(retention))
 }
 
-#[tactic(auto, using(crate::proofs::FamilyOrder::none_ascend))]
 fn families_in(alloc: Global, value: &Value<'_>) -> Result<AskedFamilyList, OutOfMemory>
-    ensures exact { IfOk result (λ list. list ≡ families_in (view value.now)) }
-    ensures order { IfOk result Ascend }
+    ensures { IfOk result (λ list. list ≡ families_in (view value.now)) }
 {
     let Some(table) = value_at(value, names::TABLE) else {
         return Ok(AskedFamilyList::new(alloc));
@@ -58,9 +58,8 @@ fn families_in(alloc: Global, value: &Value<'_>) -> Result<AskedFamilyList, OutO
     families_of(alloc, entries)
 }
 
-fn families_of(alloc: Global, entries: &Map<'_>) -> Result<AskedFamilyList, OutOfMemory>
-    ensures exact { IfOk result (λ list. list ≡ families_of (members_view entries.now.entries)) }
-    ensures order { IfOk result Ascend }
+fn families_of(alloc: Global, entries: &Members<'_>) -> Result<AskedFamilyList, OutOfMemory>
+    ensures { IfOk result (λ list. list ≡ families_of (members_view entries.now.items)) }
 {
     let mut families = AskedFamilyList::new(alloc);
     for (key, value) in entries.iter() {

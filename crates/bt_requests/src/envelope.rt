@@ -1,12 +1,14 @@
 //! The envelope of a request.
 ghost use Rattle.std.specs.Prelude.{◌≡◌, option_map};
 ghost use Rattle.bt_json.specs.View.{view};
+ghost use Rattle.bt_requests.specs.Order.{InOrder};
 ghost use Rattle.bt_requests.specs.Envelopes.{Tells, envelope_of, envelope_in, is_envelope, has_method, is_request, has_no_others, method_text, request_in_envelope, or_empty};
 
-use crate::json::{member_count, removed, value_of};
 use crate::method::Method;
+use crate::parsing::{member_count, taken, value_of};
+use crate::request_object::RequestObject;
 use bt_base::OutOfMemory;
-use bt_json::{Map, Scratch, Value};
+use bt_json::{Scratch, Value};
 use std::alloc::Global;
 
 /// Why a line has no request.
@@ -37,11 +39,12 @@ impl From<OutOfMemory> for LineRefusal {
 /// its line feed. Where the request is null or absent, it is an object without members. A string of
 /// the value stands in the line, or where it has escapes in `scratch`.
 /// Each refusal comes exactly where the one before it does not.
+#[tactic(auto, using(crate::proofs::InOrder::read_in_order))]
 pub fn read_envelope<'t>(
     alloc: Global,
     line: &'t [u8],
     scratch: &'t mut Scratch,
-) -> Result<(Method, Value<'t>), LineRefusal>
+) -> Result<(Method, RequestObject<'t>), LineRefusal>
     ensures { Tells (envelope_of line.now) result }
 {
     match value_of(alloc, line, scratch)? {
@@ -50,7 +53,8 @@ pub fn read_envelope<'t>(
     }
 }
 
-fn opened<'t>(alloc: Global, value: Value<'t>) -> Result<(Method, Value<'t>), LineRefusal>
+fn opened<'t>(alloc: Global, value: Value<'t>) -> Result<(Method, RequestObject<'t>), LineRefusal>
+    requires in_order { InOrder (view value) }
     ensures { Tells (envelope_in (view value.entry)) result }
 {
     if !is_envelope(&value) {
@@ -60,7 +64,7 @@ fn opened<'t>(alloc: Global, value: Value<'t>) -> Result<(Method, Value<'t>), Li
         return Err(LineRefusal::UnknownMethod);
     };
     let request = request_in_envelope(alloc, value);
-    Ok((method, request))
+    Ok((method, RequestObject { value: request }))
 }
 
 fn is_envelope(value: &Value<'_>) -> bool
@@ -108,8 +112,8 @@ fn request_in_envelope<'t>(alloc: Global, value: Value<'t>) -> Value<'t>
     ensures { view result ≡ request_in_envelope (view value.entry) }
 {
     match value {
-        Value::Object(mut members) => or_empty(alloc, removed(&mut members, "request")),
-        _ => Value::Object(Map::new(alloc)),
+        Value::Object(members) => or_empty(alloc, taken(members, "request")),
+        _ => Value::Object(Vec::new(alloc)),
     }
 }
 
@@ -118,6 +122,6 @@ fn or_empty<'t>(alloc: Global, request: Option<Value<'t>>) -> Value<'t>
 {
     match request {
         Some(Value::Object(members)) => Value::Object(members),
-        _ => Value::Object(Map::new(alloc)),
+        _ => Value::Object(Vec::new(alloc)),
     }
 }

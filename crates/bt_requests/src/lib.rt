@@ -8,17 +8,18 @@ mod drop_row_range;
 mod envelope;
 mod families;
 mod filters;
-mod json;
 mod list_tables;
 mod method;
 mod modifications;
 mod mutations;
 mod named_table;
 mod order;
+mod parsing;
 mod read_modify_write;
 mod read_rows;
 mod refusal;
 mod request;
+mod request_object;
 mod row_sets;
 mod rows;
 mod rules;
@@ -29,6 +30,7 @@ pub use method::Method;
 pub use order::read_request;
 pub use refusal::RequestRefusal;
 pub use request::{DropTarget, Request};
+pub use request_object::RequestObject;
 pub use rows::{AskedEntry, AskedEntryList};
 
 #[cfg(test)]

@@ -1,6 +1,7 @@
 //! From a method and a value to a request, or to the refusal that comes first.
 ghost use Rattle.std.specs.Prelude.{◌≡◌, IfOk};
 ghost use Rattle.bt_json.specs.View.{view};
+ghost use Rattle.bt_requests.specs.Order.{InOrder};
 ghost use Rattle.bt_requests.specs.Readers.{HasOrder, IsInOrder};
 ghost use Rattle.bt_requests.specs.Refusals.{Answers};
 ghost use Rattle.bt_requests.specs.Requests.{request_in, message_of, asked_of};
@@ -17,24 +18,26 @@ use crate::read_modify_write::read_modify_write_row;
 use crate::read_rows::read_rows;
 use crate::refusal::{RequestRefusal, members_refusal};
 use crate::request::Request;
+use crate::request_object::RequestObject;
 use bt_base::OutOfMemory;
 use bt_json::Value;
 use bt_members::kinds;
 use std::alloc::Global;
 
-/// What a request asks for. `value` is its object, as `read_envelope` gives it. Each refusal comes
+/// What a request asks for, by its object, as `read_envelope` gives it. Each refusal comes
 /// exactly where none of those before it does: `NotBuilt`, `Unsupported`, `BadField`, `BadName`.
 pub fn read_request(
     alloc: Global,
     method: Method,
-    value: &Value<'_>,
+    object: &RequestObject<'_>,
 ) -> Result<Request, RequestRefusal>
-    ensures exact { Answers (request_in method (view value.now)) result }
+    ensures exact { Answers (request_in method (view object.now.value)) result }
     ensures order { IfOk result HasOrder }
 {
     let Some(message) = message_of(method) else {
         return Err(RequestRefusal::NotBuilt);
     };
+    let value = &object.value;
     if let Some(refusal) = members_refusal(alloc, message, value)? {
         return Err(refusal);
     }
@@ -71,6 +74,7 @@ fn asked_of(
     method: Method,
     value: &Value<'_>,
 ) -> Result<Option<Request>, OutOfMemory>
+    requires in_order { ∥ InOrder (view value.now) ∥₁ }
     ensures exact { IfOk result (λ r. r ≡ asked_of method (view value.now)) }
     ensures order { IfOk result IsInOrder }
 {

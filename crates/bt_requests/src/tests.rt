@@ -8,8 +8,8 @@ use std::test::Fail;
 
 fn asked(alloc: Global, line: &str) -> Result<Request, Fail> {
     let mut scratch = Scratch::new(alloc);
-    let (method, value) = read_envelope(alloc, line.as_bytes(), &mut scratch)?;
-    Ok(read_request(alloc, method, &value)?)
+    let (method, object) = read_envelope(alloc, line.as_bytes(), &mut scratch)?;
+    Ok(read_request(alloc, method, &object)?)
 }
 
 #[test]
@@ -62,8 +62,8 @@ fn an_amount_and_an_empty_value_are_actions(rt: HostRuntime) -> Result<(), Fail>
 fn a_line_without_a_request_has_an_empty_one(rt: HostRuntime) -> Result<(), Fail> {
     let mut scratch = Scratch::new(rt.alloc());
     let line = br#"{"method":"GetTable"}"#;
-    let (method, value) = read_envelope(rt.alloc(), line, &mut scratch)?;
+    let (method, object) = read_envelope(rt.alloc(), line, &mut scratch)?;
     assert_eq!(rt; method, Method::GetTable);
-    assert!(rt; value.is_object());
+    assert!(rt; object.value.is_object());
     Ok(())
 }

@@ -6,7 +6,7 @@ ghost use Rattle.bt_text.specs.Names.{listed, original_name};
 
 use crate::names::{is_json_name, is_listed, is_original};
 use crate::refusal::FieldRefusal;
-use bt_json::{Map, Value};
+use bt_json::{Members, Value};
 use std::alloc::Global;
 
 /// Whether `value` is an object with members of the list `names` alone, each by one name. `names` is a
@@ -33,9 +33,9 @@ pub fn check_members(
     }
 }
 
-fn first_fault<'m>(members: &'m Map<'_>, names: &[u8]) -> Option<&'m str>
+fn first_fault<'m>(members: &'m Members<'_>, names: &[u8]) -> Option<&'m str>
     ensures { option_map (λ s. s.now) result
-        ≡ first_fault (listed names.now) (members_view members.now.entries) (members_view members.now.entries) }
+        ≡ first_fault (listed names.now) (members_view members.now.items) (members_view members.now.items) }
 {
     for (key, _value) in members.iter() {
         if is_fault(members, names, key.as_bytes()) {
@@ -45,20 +45,20 @@ fn first_fault<'m>(members: &'m Map<'_>, names: &[u8]) -> Option<&'m str>
     None
 }
 
-fn is_fault(members: &Map<'_>, names: &[u8], key: &[u8]) -> bool
-    ensures { result ≡ is_fault (listed names.now) (members_view members.now.entries) key.now }
+fn is_fault(members: &Members<'_>, names: &[u8], key: &[u8]) -> bool
+    ensures { result ≡ is_fault (listed names.now) (members_view members.now.items) key.now }
 {
     !is_listed(names, key) || (is_json_name(names, key) && is_doubled(members, key))
 }
 
-fn is_doubled(members: &Map<'_>, name: &[u8]) -> bool
-    ensures { result ≡ is_doubled (members_view members.now.entries) name.now }
+fn is_doubled(members: &Members<'_>, name: &[u8]) -> bool
+    ensures { result ≡ is_doubled (members_view members.now.items) name.now }
 {
     !is_original(name, name) && holds_name(members, name) && holds_original(members, name)
 }
 
-fn holds_name(members: &Map<'_>, name: &[u8]) -> bool
-    ensures { result ≡ holds (λ k. bytes_eq k name.now) (members_view members.now.entries) }
+fn holds_name(members: &Members<'_>, name: &[u8]) -> bool
+    ensures { result ≡ holds (λ k. bytes_eq k name.now) (members_view members.now.items) }
 {
     for (key, value) in members.iter() {
         if !value.is_null() && key.as_bytes() == name {
@@ -68,8 +68,8 @@ fn holds_name(members: &Map<'_>, name: &[u8]) -> bool
     false
 }
 
-fn holds_original(members: &Map<'_>, name: &[u8]) -> bool
-    ensures { result ≡ holds (λ k. bytes_eq (original_name name.now) k) (members_view members.now.entries) }
+fn holds_original(members: &Members<'_>, name: &[u8]) -> bool
+    ensures { result ≡ holds (λ k. bytes_eq (original_name name.now) k) (members_view members.now.items) }
 {
     for (key, value) in members.iter() {
         if !value.is_null() && is_original(name, key.as_bytes()) {

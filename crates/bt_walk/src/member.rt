@@ -79,10 +79,10 @@ fn only_entry<'v, 't>(whole: &'v Value<'t>) -> Option<(&'t str, &'v Value<'t>)>
     ensures { IfSome result (λ entry. view whole.now ≡ alone entry.0.now (view entry.1.now)) }
 {
     match whole {
-        Value::Object(entries) if entries.len() == 1 => {
-            let (key, value) = entries.first_key_value()?;
-            Some((*key, value))
-        }
+        Value::Object(entries) => match entries.as_slice() {
+            [(key, value)] => Some((*key, value)),
+            _ => None,
+        },
         _ => None,
     }
 }

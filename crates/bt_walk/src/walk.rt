@@ -10,7 +10,7 @@ use crate::found::{Faults, first, name_of, within};
 use crate::leaf::bad_leaf;
 use crate::member::{is_absent, is_too_many, is_unsupported};
 use crate::shape::{Many, Member, Schema, Shape, named};
-use bt_json::{Map, Value};
+use bt_json::{Members, Value};
 
 /// The first faults of a value of that shape, in preorder: the members of an object in byte order of
 /// their JSON names (an unknown one by its own), the items of an array by index. Each is told by the
@@ -74,14 +74,14 @@ fn entries_faults<'v, S: Schema>(
     schema: &S,
     shape: Shape,
     name: &'v str,
-    entries: &'v Map<'_>,
+    entries: &'v Members<'_>,
 ) -> Faults<'v>
     ensures unsupported { option_map (λ n. n.now) result.unsupported
         ≡ entries_fault (S.Schema.table schema.now) ForUnsupported shape name.now
-        (members_view entries.now.entries) }
+        (members_view entries.now.items) }
     ensures bad { option_map (λ n. n.now) result.bad
         ≡ entries_fault (S.Schema.table schema.now) ForBad shape name.now
-        (members_view entries.now.entries) }
+        (members_view entries.now.items) }
 {
     let mut unsupported = None;
     let mut bad = None;
@@ -100,15 +100,15 @@ fn entries_faults<'v, S: Schema>(
 fn members_faults<'v, S: Schema>(
     schema: &S,
     members: &'static [Member],
-    entries: &'v Map<'_>,
+    entries: &'v Members<'_>,
     whole: &'v Value<'_>,
 ) -> Faults<'v>
     ensures unsupported { option_map (λ n. n.now) result.unsupported
         ≡ name_of (members_fault (S.Schema.table schema.now) ForUnsupported (map seen members.now)
-        (view whole.now) None (members_view entries.now.entries)) }
+        (view whole.now) None (members_view entries.now.items)) }
     ensures bad { option_map (λ n. n.now) result.bad
         ≡ name_of (members_fault (S.Schema.table schema.now) ForBad (map seen members.now)
-        (view whole.now) None (members_view entries.now.entries)) }
+        (view whole.now) None (members_view entries.now.items)) }
 {
     let mut unsupported = None;
     let mut bad = None;

@@ -1,14 +1,16 @@
-use Rattle.std.proofs.Common.{◌≡◌, ◌-◌, ◌<◌, [], ◌∷◌, length, Some, None, string_bytes, sym, ap, ap₂, ◌∙◌, arith, rules}
+use Rattle.std.proofs.Common.{◌≡◌, ◌-◌, ◌<◌, [], ◌∷◌, length, Some, None, refl, subst, sym, ap, ap₂, ◌∙◌, arith, rules}
 use Rattle.json.specs.Token.{Token}
 use Rattle.json.specs.Json.{parse_map, after_end_array, read_key, items, members, value}
 use Rattle.json.specs.Reads.{token_of}
 use Rattle.json.proofs.Grammar.{value_is, value-begin_array, value-begin_object, read_key-shorter}
 use Rattle.serde_json.specs.Data.{null, boolean, number, string, array, object, put}
 use Rattle.serde_json.specs.Read.{of_json, of_items, of_members, converted}
+use Rattle.bt_json.specs.Names.{AreSorted}
 use Rattle.bt_json.specs.View.{view, number_view, members_view}
 use Rattle.bt_json.specs.declared.value.Value.{String, Number, Bool, Null, the_lemmas}
+use Rattle.bt_json.proofs.Sorted.{none_sorted, put_sorted}
 use Rattle.bt_json.proofs.Views.{view-Array, view-Object, inserted}
-use Rattle.bt_json.proofs.Turns.{array_converted, object_converted, item_read, item_refused, items_over, member_read, member_refused, key_refused, members_over, items_after, none_after, one_more, as_it_is}
+use Rattle.bt_json.proofs.Turns.{array_converted, object_converted, item_read, item_refused, items_over, member_read, member_refused, key_refused, members_over, items_after, none_after, one_more, as_it_is, if_ok_map}
 use Rattle.bt_json.proofs.reading.+read.Goals as goal
 
 pub read_value-returns-in_err-ok_or-clause-ill_formed : goal.read_value-returns-in_err-ok_or-clause-ill_formed
@@ -138,14 +140,14 @@ read_items-returns-clause-ok t c =
 pub read_members-members-init : goal.read_members-members-init
 read_members-members-init t c =
     let all = members (value c.args.depth) (length c.args.reader.now) c.args.reader.now in
-    (length c.args.reader.now, omega arith, ap (λ es. converted (λ ms. of_members ms (members_view es)) all) (sym c.new-found.ensures.empty), omega arith)
+    (length c.args.reader.now, omega arith, ap (λ es. converted (λ ms. of_members ms (members_view es)) all) (sym c.new-found.ensures.items), omega arith, subst AreSorted (sym c.new-found.ensures.items) none_sorted)
 
 pub read_members-returns-in_err-name-clause-ill_formed : goal.read_members-returns-in_err-name-clause-ill_formed
 read_members-returns-in_err-name-clause-ill_formed t c refused =
     let p = value c.args.depth in
     let l = c.members in
     let n = l.invariant.0 in
-    let old = members_view l.found.entries in
+    let old = members_view l.found.items in
     l.invariant.2 ∙ key_refused p old n l.reader c.in_err-name.ensures.value
 
 pub read_members-returns-in_err-member-clause-ill_formed : goal.read_members-returns-in_err-member-clause-ill_formed
@@ -153,7 +155,7 @@ read_members-returns-in_err-member-clause-ill_formed t c refused =
     let p = value c.args.depth in
     let l = c.members in
     let n = l.invariant.0 in
-    let old = members_view l.found.entries in
+    let old = members_view l.found.items in
     let k = c.in-Some.name.now in
     let s = c.next_key.new.self in
     let named : read_key l.reader ≡ Some (Some k, s) = grind arith in
@@ -164,6 +166,99 @@ read_members-members-preserved t c =
     let p = value c.args.depth in
     let l = c.members in
     let n = l.invariant.0 in
+    let old = members_view l.found.items in
+    let k = c.in-Some.name.now in
+    let s = c.next_key.new.self in
+    let named : read_key l.reader ≡ Some (Some k, s) = grind arith in
+    let done = c.in_ok-member.ensures in
+    let v = c.in_ok-member.member in
+    let r = c.read_value.new.reader in
+    let less = read_key-shorter l.reader (Some k) s named in
+    let lesser = done.shorter in
+    let put_in : members_view c.put.new.members.items ≡ put k (view v) old = ap members_view c.in_ok-put.ensures.entries ∙ inserted l.found.items c.in-Some.name v in
+    let turn = l.invariant.2 ∙ member_read p old n k l.reader s r (view v) (omega (arith, l.invariant.1)) named done.ok
+    ∙ ap (λ found. converted (λ ms. of_members ms found) (members p (n - 1) r)) (sym put_in) in
+    let sorted : AreSorted c.put.new.members.items = subst AreSorted (sym c.in_ok-put.ensures.entries) (put_sorted c.in-Some.name v l.found.items l.invariant.4) in
+    (n - 1, omega (arith, l.invariant.1), turn, omega (arith, l.invariant.3), sorted)
+
+pub read_members-to_map-requires : goal.read_members-to_map-requires
+read_members-to_map-requires t c =
+    record { sorted = subst AreSorted (sym c.in_ok-put.ensures.entries) (put_sorted c.in-Some.name c.in_ok-member.member c.members.found.items c.members.invariant.4) }
+
+pub read_members-returns-then-len-eq-MOST_IN_LIST-clause-ok : goal.read_members-returns-then-len-eq-MOST_IN_LIST-clause-ok
+read_members-returns-then-len-eq-MOST_IN_LIST-clause-ok t c =
+    let p = value c.args.depth in
+    let l = c.members in
+    let n = l.invariant.0 in
+    let old = members_view l.found.items in
+    let k = c.in-Some.name.now in
+    let s = c.next_key.new.self in
+    let named : read_key l.reader ≡ Some (Some k, s) = grind arith in
+    let done = c.in_ok-member.ensures in
+    let v = c.in_ok-member.member in
+    let r = c.read_value.new.reader in
+    let less = read_key-shorter l.reader (Some k) s named in
+    let lesser = done.shorter in
+    let put_in : members_view c.put.new.members.items ≡ put k (view v) old = ap members_view c.in_ok-put.ensures.entries ∙ inserted l.found.items c.in-Some.name v in
+    let turn = l.invariant.2 ∙ member_read p old n k l.reader s r (view v) (omega (arith, l.invariant.1)) named done.ok
+    ∙ ap (λ found. converted (λ ms. of_members ms found) (members p (n - 1) r)) (sym put_in) in
+    let mapped = turn ∙ ap (λ es. converted (λ ms. of_members ms (members_view es)) (members p (n - 1) r)) (sym c.in_ok-map.ensures.exact) in
+    if_ok_map c.read_more_members.result (λ m e. mapped ∙ e) (c.read_more_members.ensures.ok (n - 1) (omega (arith, l.invariant.1)))
+
+pub read_members-returns-then-len-eq-MOST_IN_LIST-clause-ill_formed : goal.read_members-returns-then-len-eq-MOST_IN_LIST-clause-ill_formed
+read_members-returns-then-len-eq-MOST_IN_LIST-clause-ill_formed t c refused =
+    let p = value c.args.depth in
+    let l = c.members in
+    let n = l.invariant.0 in
+    let old = members_view l.found.items in
+    let k = c.in-Some.name.now in
+    let s = c.next_key.new.self in
+    let named : read_key l.reader ≡ Some (Some k, s) = grind arith in
+    let done = c.in_ok-member.ensures in
+    let v = c.in_ok-member.member in
+    let r = c.read_value.new.reader in
+    let less = read_key-shorter l.reader (Some k) s named in
+    let lesser = done.shorter in
+    let put_in : members_view c.put.new.members.items ≡ put k (view v) old = ap members_view c.in_ok-put.ensures.entries ∙ inserted l.found.items c.in-Some.name v in
+    let turn = l.invariant.2 ∙ member_read p old n k l.reader s r (view v) (omega (arith, l.invariant.1)) named done.ok
+    ∙ ap (λ found. converted (λ ms. of_members ms found) (members p (n - 1) r)) (sym put_in) in
+    let mapped = turn ∙ ap (λ es. converted (λ ms. of_members ms (members_view es)) (members p (n - 1) r)) (sym c.in_ok-map.ensures.exact) in
+    mapped ∙ c.read_more_members.ensures.ill_formed (n - 1) (omega (arith, l.invariant.1)) refused
+
+pub read_members-returns-clause-ok : goal.read_members-returns-clause-ok
+read_members-returns-clause-ok t c =
+    let p = value c.args.depth in
+    let l = c.members in
+    let n = l.invariant.0 in
+    let old = members_view l.found.items in
+    l.invariant.2 ∙ members_over p old n l.reader c.next_key.new.self l.invariant.1 (grind arith)
+
+pub read_more_members-members-init : goal.read_more_members-members-init
+read_more_members-members-init t c = (λ most h. (most, h, refl), omega arith)
+
+pub read_more_members-returns-in_err-name-clause-ill_formed : goal.read_more_members-returns-in_err-name-clause-ill_formed
+read_more_members-returns-in_err-name-clause-ill_formed t c most h refused =
+    let p = value c.args.depth in
+    let l = c.members in
+    let i = l.invariant.0 most h in
+    let old = members_view l.found.entries in
+    i.2 ∙ key_refused p old i.0 l.reader c.in_err-name.ensures.value
+
+pub read_more_members-returns-in_err-member-clause-ill_formed : goal.read_more_members-returns-in_err-member-clause-ill_formed
+read_more_members-returns-in_err-member-clause-ill_formed t c most h refused =
+    let p = value c.args.depth in
+    let l = c.members in
+    let i = l.invariant.0 most h in
+    let old = members_view l.found.entries in
+    let k = c.in-Some.name.now in
+    let s = c.next_key.new.self in
+    let named : read_key l.reader ≡ Some (Some k, s) = grind arith in
+    i.2 ∙ member_refused p old i.0 k l.reader s named (c.read_value.ensures.ill_formed (grind arith))
+
+pub read_more_members-members-preserved : goal.read_more_members-members-preserved
+read_more_members-members-preserved t c =
+    let p = value c.args.depth in
+    let l = c.members in
     let old = members_view l.found.entries in
     let k = c.in-Some.name.now in
     let s = c.next_key.new.self in
@@ -174,17 +269,20 @@ read_members-members-preserved t c =
     let less = read_key-shorter l.reader (Some k) s named in
     let lesser = done.shorter in
     let put_in : members_view c.insert.new.self.entries ≡ put k (view v) old = ap members_view c.in_ok-insert.ensures.entries ∙ inserted l.found.entries c.in-Some.name v in (
-      n - 1,
+      λ most h. let i = l.invariant.0 most h in (
+        i.0 - 1,
+        omega (arith, i.1),
+        i.2 ∙ member_read p old i.0 k l.reader s r (view v) (omega (arith, i.1)) named done.ok
+            ∙ ap (λ found. converted (λ ms. of_members ms found) (members p (i.0 - 1) r)) (sym put_in),
+      ),
       omega (arith, l.invariant.1),
-      l.invariant.2 ∙ member_read p old n k l.reader s r (view v) (omega (arith, l.invariant.1)) named done.ok
-          ∙ ap (λ found. converted (λ ms. of_members ms found) (members p (n - 1) r)) (sym put_in),
-      omega (arith, l.invariant.3),
     )
 
-pub read_members-returns-clause-ok : goal.read_members-returns-clause-ok
-read_members-returns-clause-ok t c =
+pub read_more_members-returns-clause-ok : goal.read_more_members-returns-clause-ok
+read_more_members-returns-clause-ok t c most h =
     let p = value c.args.depth in
     let l = c.members in
-    let n = l.invariant.0 in
+    let i = l.invariant.0 most h in
     let old = members_view l.found.entries in
-    l.invariant.2 ∙ members_over p old n l.reader c.next_key.new.self l.invariant.1 (grind arith)
+    let over = i.2 ∙ members_over p old i.0 l.reader c.next_key.new.self i.1 (grind arith) in
+    if_ok_map c.from_map.result (λ m same. over ∙ ap (λ es. Some (members_view es, c.next_key.new.self)) (sym same)) c.from_map.ensures.exact

@@ -2,18 +2,22 @@ use Rattle.std.proofs.Common.{◌≡◌, ℕ, ◌+◌, ◌*◌, ◌≤◌, lengt
 use Rattle.json.specs.Json.{items, members, value, parse_map}
 use Rattle.serde_json.specs.Data.{no_members}
 use Rattle.serde_json.specs.Read.{of_items, of_members, converted}
+use Rattle.bt_json.specs.Names.{AreSorted}
 use Rattle.bt_json.specs.View.{members_view}
 use Rattle.bt_json.proofs.Turns.{items_after}
 use Rattle.bt_json.proofs.reading.+read.Given as goal
 
 abbrev pub decreases-read_value : goal.decreases-read_value
-decreases-read_value l = 2 * l.depth
+decreases-read_value l = 3 * l.depth
 
 abbrev pub decreases-read_items : goal.decreases-read_items
-decreases-read_items l = 2 * l.depth + 1
+decreases-read_items l = 3 * l.depth + 1
 
 abbrev pub decreases-read_members : goal.decreases-read_members
-decreases-read_members l = 2 * l.depth + 1
+decreases-read_members l = 3 * l.depth + 2
+
+abbrev pub decreases-read_more_members : goal.decreases-read_more_members
+decreases-read_more_members l = 3 * l.depth + 1
 
 -- what was read, and then what is left, is all
 abbrev pub invariant-read_items-items : goal.invariant-read_items-items
@@ -28,8 +32,18 @@ decreases-read_items-items l = length l.reader
 abbrev pub invariant-read_members-members : goal.invariant-read_members-members
 invariant-read_members-members l =
     (n : ℕ) × (length l.reader ≤ n)
-    × (converted (λ ms. of_members ms no_members) (members (value l.depth) (length l.initial.reader) l.initial.reader) ≡ converted (λ ms. of_members ms (members_view l.found.entries)) (members (value l.depth) n l.reader))
+    × (converted (λ ms. of_members ms no_members) (members (value l.depth) (length l.initial.reader) l.initial.reader) ≡ converted (λ ms. of_members ms (members_view l.found.items)) (members (value l.depth) n l.reader))
     × (length l.reader ≤ length l.initial.reader)
+    × AreSorted l.found.items
 
 abbrev pub decreases-read_members-members : goal.decreases-read_members-members
 decreases-read_members-members l = length l.reader
+
+abbrev pub invariant-read_more_members-members : goal.invariant-read_more_members-members
+invariant-read_more_members-members l =
+    ((most : ℕ) → length l.initial.reader ≤ most → (n : ℕ) × (length l.reader ≤ n)
+    × (converted (λ ms. of_members ms (members_view l.initial.found.entries)) (members (value l.depth) most l.initial.reader) ≡ converted (λ ms. of_members ms (members_view l.found.entries)) (members (value l.depth) n l.reader)))
+    × (length l.reader ≤ length l.initial.reader)
+
+abbrev pub decreases-read_more_members-members : goal.decreases-read_more_members-members
+decreases-read_more_members-members l = length l.reader

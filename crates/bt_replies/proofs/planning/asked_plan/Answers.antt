@@ -9,5 +9,5 @@ use Rattle.bt_replies.proofs.planning.asked_plan.Goals as goal
 
 pub returns-in-Err : goal.returns-in-Err
 returns-in-Err c =
-    let is : request_in c.args.method (view c.args.value.now) ≡ Err c.in-Err.refusal = search rules in
+    let is : request_in c.args.method (view c.args.object.now.value) ≡ Err c.in-Err.refusal = search rules in
     rw is (plan_of_one c.args.present.now (refused_by (request_refusal_line c.in-Err.refusal)) c.refusal_plan.result c.refusal_plan.ensures)

@@ -14,11 +14,11 @@ invariant-items_faults-loop-item g l =
 
 abbrev pub invariant-entries_faults-loop-key : goal.invariant-entries_faults-loop-key
 invariant-entries_faults-loop-key g l =
-    (or_else (option_map (λ n. n.now) l.unsupported) (entries_fault (g.S.Schema.table l.schema) ForUnsupported l.shape l.name (members_view l._key-iterator)) ≡ entries_fault (g.S.Schema.table l.schema) ForUnsupported l.shape l.name (members_view l.entries.entries))
-    × (or_else (option_map (λ n. n.now) l.bad) (entries_fault (g.S.Schema.table l.schema) ForBad l.shape l.name (members_view l._key-iterator)) ≡ entries_fault (g.S.Schema.table l.schema) ForBad l.shape l.name (members_view l.entries.entries))
+    (or_else (option_map (λ n. n.now) l.unsupported) (entries_fault (g.S.Schema.table l.schema) ForUnsupported l.shape l.name (members_view (drop l._key-index l.entries.items))) ≡ entries_fault (g.S.Schema.table l.schema) ForUnsupported l.shape l.name (members_view l.entries.items))
+    × (or_else (option_map (λ n. n.now) l.bad) (entries_fault (g.S.Schema.table l.schema) ForBad l.shape l.name (members_view (drop l._key-index l.entries.items))) ≡ entries_fault (g.S.Schema.table l.schema) ForBad l.shape l.name (members_view l.entries.items))
 
 -- what was found goes on to what is found
 abbrev pub invariant-members_faults-loop-key : goal.invariant-members_faults-loop-key
 invariant-members_faults-loop-key g l =
-    (members_fault (g.S.Schema.table l.schema) ForUnsupported (map seen l.members) (view l.whole) (option_map told l.unsupported) (members_view l.key-iterator) ≡ members_fault (g.S.Schema.table l.schema) ForUnsupported (map seen l.members) (view l.whole) None (members_view l.entries.entries))
-    × (members_fault (g.S.Schema.table l.schema) ForBad (map seen l.members) (view l.whole) (option_map told l.bad) (members_view l.key-iterator) ≡ members_fault (g.S.Schema.table l.schema) ForBad (map seen l.members) (view l.whole) None (members_view l.entries.entries))
+    (members_fault (g.S.Schema.table l.schema) ForUnsupported (map seen l.members) (view l.whole) (option_map told l.unsupported) (members_view (drop l.key-index l.entries.items)) ≡ members_fault (g.S.Schema.table l.schema) ForUnsupported (map seen l.members) (view l.whole) None (members_view l.entries.items))
+    × (members_fault (g.S.Schema.table l.schema) ForBad (map seen l.members) (view l.whole) (option_map told l.bad) (members_view (drop l.key-index l.entries.items)) ≡ members_fault (g.S.Schema.table l.schema) ForBad (map seen l.members) (view l.whole) None (members_view l.entries.items))

@@ -6,7 +6,7 @@ ghost use Rattle.bt_json.specs.View.{view, members_view};
 ghost use Rattle.bt_requests.specs.Envelopes.{value_of, text_of, member_count};
 
 use bt_base::OutOfMemory;
-use bt_json::{Map, ReadRefusal, Scratch, Value, read};
+use bt_json::{Members, ReadRefusal, Scratch, Value, read};
 use std::alloc::Global;
 use std::str;
 
@@ -56,8 +56,13 @@ pub(crate) fn member_count(value: &Value<'_>) -> Option<usize>
 }
 
 // The member of that name, taken out.
-pub(crate) fn removed<'t>(members: &mut Map<'t>, name: &str) -> Option<Value<'t>>
-    ensures { option_map view result ≡ get_member name.now (members_view members.old.entries) }
+pub(crate) fn taken<'t>(members: Members<'t>, name: &str) -> Option<Value<'t>>
+    ensures { option_map view result ≡ get_member name.now (members_view members.entry.items) }
 {
-    members.remove(name)
+    for (other, value) in members {
+        if name == other {
+            return Some(value);
+        }
+    }
+    None
 }
