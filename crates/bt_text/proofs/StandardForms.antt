@@ -10,7 +10,7 @@ use Rattle.base64.specs.GeneralPurpose.{decoded_of}
 use Rattle.bt_text.specs.Bytes.{is_url_safe_digit, standard_digit, is_padding, missing_padding, bytes_of_text, is_standard_text}
 
 -- a digit becomes no padding, and padding stays
-is_padding-standard_digit : (c : ℕ) → is_padding (standard_digit c) ≡ is_padding c
+pub is_padding-standard_digit : (c : ℕ) → is_padding (standard_digit c) ≡ is_padding c
 is_padding-standard_digit c = grind (arith, nat_tests)
 
 -- so a text has padding in its standard form where it has any

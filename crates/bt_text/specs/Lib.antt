@@ -11,4 +11,5 @@ pub mod Timestamp
 pub mod Offsets
 pub mod Printed
 pub mod Bytes
+pub mod Groups
 pub mod Refusal

@@ -1,13 +1,11 @@
 //! Whether a text is base64, tested without memory for its bytes.
-ghost use Rattle.std.specs.Prelude.{◌≡◌, ◌++◌, ◌-◌, ◌<◌, ◌≤◌, drop, false, is_some, length, map, replicate};
+ghost use Rattle.std.specs.Prelude.{◌≡◌, ◌%◌, ◌&&◌, ◌<◌, ◌==◌, ◌≤◌, drop, false, if◌then◌else◌, is_some, length};
 ghost use Rattle.std.specs.Bool.{OnFalse, OnTrue};
 ghost use Rattle.std.specs.List.{list_all};
-ghost use Rattle.base64.specs.Engines.{standard};
-ghost use Rattle.base64.specs.GeneralPurpose.{decoded_of};
-ghost use Rattle.bt_text.specs.Bytes.{bytes_of_text, is_digit, standard_digit};
+ghost use Rattle.bt_text.specs.Bytes.{bytes_of_text, is_digit};
+ghost use Rattle.bt_text.specs.Groups.{digit_bits, is_one_byte, is_two_bytes, is_whole_group};
 
-use crate::bytes::{missing_padding, standard_digit};
-use base64::engine::general_purpose::STANDARD;
+use crate::bytes::standard_digit;
 
 pub(crate) fn is_base64(text: &[u8]) -> bool
     ensures { result ≡ is_some (bytes_of_text text.now) }
@@ -45,68 +43,67 @@ fn is_digit(c: u8) -> bool
 }
 
 // The same of a text of at most one group.
-#[tactic(auto, using(crate::proofs::Base64Groups::with_padding, crate::proofs::Base64Groups::as_it_stands, crate::proofs::Base64Groups::few_bytes))]
+#[tactic(auto, using(crate::proofs::Base64Groups::of_one_group))]
 fn is_last_group(text: &[u8]) -> bool
     requires { length text.now ≤ 4 }
     ensures { result ≡ is_some (bytes_of_text text.now) }
 {
-    if missing_padding(text) == 0 {
-        is_group(text)
+    match text {
+        [] => true,
+        [a, b] => is_one_byte(*a, *b),
+        [a, b, c] => is_two_bytes(*a, *b, *c),
+        [a, b, c, d] => is_whole_group(*a, *b, *c, *d),
+        _ => false,
+    }
+}
+
+fn is_whole_group(a: u8, b: u8, c: u8, d: u8) -> bool
+    ensures { result ≡ is_whole_group a b c d }
+{
+    match (c, d) {
+        (b'=', b'=') => is_one_byte(a, b),
+        (_, b'=') => is_two_bytes(a, b, c),
+        _ => is_digit(a) && is_digit(b) && is_digit(c) && is_digit(d),
+    }
+}
+
+// No bit of the second digit is left over.
+fn is_one_byte(a: u8, b: u8) -> bool
+    ensures { result ≡ is_one_byte a b }
+{
+    is_digit(a) && digit_bits(b) % 16 == 0
+}
+
+// No bit of the third digit is left over.
+fn is_two_bytes(a: u8, b: u8, c: u8) -> bool
+    ensures { result ≡ is_two_bytes a b c }
+{
+    is_digit(a) && is_digit(b) && digit_bits(c) % 4 == 0
+}
+
+// The six bits of a digit; 255 for any other byte.
+#[tactic(auto, using(crate::proofs::Base64Groups::bits_by_ranges))]
+fn digit_bits(c: u8) -> u8
+    ensures { result ≡ digit_bits c }
+{
+    if c.is_ascii_uppercase() {
+        c - b'A'
+    } else if c.is_ascii_lowercase() {
+        c - b'a' + 26
+    } else if c.is_ascii_digit() {
+        c - b'0' + 52
     } else {
-        is_unpadded_group(text)
+        sign_bits(standard_digit(c))
     }
 }
 
-fn is_group(text: &[u8]) -> bool
-    requires { length text.now ≤ 4 }
-    ensures { result ≡ is_some (decoded_of standard (map standard_digit text.now)) }
+// The same of a digit that is neither a letter nor a number.
+fn sign_bits(c: u8) -> u8
+    ensures { result ≡ if c == 43 then 62 else (if c == 47 then 63 else 255) }
 {
-    match text {
-        [a, b, c, d] => {
-            let group = [
-                standard_digit(*a),
-                standard_digit(*b),
-                standard_digit(*c),
-                standard_digit(*d),
-            ];
-            is_decoded(&group)
-        }
-        [a, b, c] => {
-            let group = [standard_digit(*a), standard_digit(*b), standard_digit(*c)];
-            is_decoded(&group)
-        }
-        [a, b] => is_decoded(&[standard_digit(*a), standard_digit(*b)]),
-        [a] => is_decoded(&[standard_digit(*a)]),
-        _ => is_decoded(&[]),
+    match c {
+        b'+' => 62,
+        b'/' => 63,
+        _ => 255,
     }
-}
-
-fn is_unpadded_group(text: &[u8]) -> bool
-    requires some { 0 < length text.now }
-    requires few { length text.now < 4 }
-    ensures { result ≡ is_some (decoded_of standard (map standard_digit text.now ++ replicate (4 - length text.now) 61)) }
-{
-    match text {
-        [a, b, c] => {
-            let group = [
-                standard_digit(*a),
-                standard_digit(*b),
-                standard_digit(*c),
-                b'=',
-            ];
-            is_decoded(&group)
-        }
-        [a, b] => is_decoded(&[standard_digit(*a), standard_digit(*b), b'=', b'=']),
-        [a, ..] => is_decoded(&[standard_digit(*a), b'=', b'=', b'=']),
-        _ => unreachable!(),
-    }
-}
-
-#[tactic(auto, using(crate::proofs::Base64Groups::decoded_into_slice))]
-fn is_decoded(group: &[u8]) -> bool
-    requires { length group.now ≤ 4 }
-    ensures { result ≡ is_some (decoded_of standard group.now) }
-{
-    let mut bytes = [0u8; 3];
-    STANDARD.decode_slice(group, &mut bytes).is_ok()
 }
