@@ -1,7 +1,7 @@
 -- Bytes in a buffer.
 use Rattle.std.specs.Prelude.{Result, Ok, Err, IfOk}
 use Rattle.std.proofs.Common.{zero, suc, Option, Some, ◌≡◌, ◌≤◌, ℕ, ◌+◌, ◌-◌, List, [], ◌∷◌, ◌++◌, length, take, drop, slice_range, sym, ap, ◌∙◌, arith, length-drop}
-use Rattle.std.proofs.lemmas.List.{drop-drop, drop-append-le, take-append-le, length-take, drop-take}
+use Rattle.std.proofs.lemmas.List.{drop-drop, drop-append-le, take-append-le, take-take, take_all, length-take, drop-take}
 
 pub skipped : (bytes : List ℕ) (start filled count : ℕ) → start + count ≤ filled → slice_range bytes (start + count) filled ≡ drop count (slice_range bytes start filled)
 skipped bytes start filled count fits =
@@ -19,6 +19,20 @@ filled_more old new got s f n le within is =
     let inside : s ≤ length (take f old) = omega (arith, le, within, length-take f old) in
     range_of new s (f + n) (omega (arith, le)) ∙ ap (λ (xs : List ℕ). drop s xs) is ∙ drop-append-le s (take f old) got inside
     ∙ ap (λ (xs : List ℕ). xs ++ got) (sym (range_of old s f le))
+
+-- what is written through a slice of a whole vector
+pub written : (size : ℕ) (old new : List ℕ) → length new ≡ size → take size (new ++ drop (length new) old) ≡ new
+written size old new is = take-append-le size new (drop (length new) old) (omega (arith, is)) ∙ take_all size new (omega (arith, is))
+
+front_of : (bytes : List ℕ) (s f k : ℕ) → s + k ≤ f → take k (slice_range bytes s f) ≡ drop s (take (s + k) bytes)
+front_of bytes s f k fits = take-take k (f - s) (drop s bytes) (omega arith) ∙ sym (drop-take s k bytes)
+
+-- the front stays where only what lies behind it is written
+pub front_still : (old new : List ℕ) (s f until k : ℕ) → s + k ≤ f → f ≤ until → take f new ≡ take f old → take k (slice_range new s until) ≡ take k (slice_range old s f)
+front_still old new s f until k fits up is =
+    front_of new s until k (omega (arith, fits, up))
+    ∙ ap (λ (xs : List ℕ). drop s xs) (sym (take-take (s + k) f new fits) ∙ ap (λ (xs : List ℕ). take (s + k) xs) is ∙ take-take (s + k) f old fits)
+    ∙ sym (front_of old s f k fits)
 
 pub range_length : (bytes : List ℕ) (s f : ℕ) → f ≤ length bytes → length (slice_range bytes s f) ≡ f - s
 range_length bytes s f within = omega (arith, within, length-take (f - s) (drop s bytes), length-drop s bytes)

@@ -20,6 +20,8 @@ pub record Buffered : Type 0 where
   pub most : ℕ
   -- free behind the text
   pub room : ℕ
+  -- the part of it that was written to before
+  pub ready : ℕ
 
 -- ---- turns, one after another
 

@@ -1,5 +1,5 @@
 //! The bytes of a connection that were read, from the line at hand on.
-ghost use Rattle.std.specs.Prelude.{◌≡◌, ◌↔◌, ◌<◌, ◌≤◌, ◌+◌, ◌-◌, ℕ, List, [], None, ◌++◌, length, drop, take, slice_range, IsTrue, IfOk, OnOk, OnErr, IsSome, Some};
+ghost use Rattle.std.specs.Prelude.{◌≡◌, ◌↔◌, ◌<◌, ◌≤◌, ◌+◌, ◌-◌, ℕ, List, [], None, ◌++◌, length, drop, take, replicate, slice_range, vec_len, vec_capacity, IsTrue, IfOk, OnOk, OnErr, IsSome, Some};
 ghost use Rattle.std.specs.List.{position};
 ghost use Rattle.bt_base.specs.Counts.{Counts};
 ghost use Rattle.bt_outside.specs.Links.{LastGoes, Marks};
@@ -8,14 +8,19 @@ ghost use Rattle.bt_top.specs.Steps.{Buffered};
 
 use bt_base::OutOfMemory;
 use bt_outside::{Disk, LinkFailed, Links};
+use memchr::memchr;
 use std::alloc::Global;
 use std::marker::Model;
 
-/// Room for one line and its LF, reserved once. What was searched for a line's end is not searched
-/// again.
+// So many bytes are made ready at a time.
+const BLOCK: usize = 1 << 18;
+
+/// Room for one line and its LF, reserved once, and written to only as far as lines came. What was
+/// searched for a line's end is not searched again.
 #[derive(Drop)]
 pub struct LineBuffer {
     bytes: Vec<u8>,
+    most: usize,
     start: usize,
     filled: usize,
     searched: usize,
@@ -24,16 +29,27 @@ pub struct LineBuffer {
 impl Model for LineBuffer {
     ghost Value = { Buffered };
 
-    ghost view = { λ b. record { text = slice_range b.bytes.items b.start b.filled; most = length b.bytes.items - 1; room = length b.bytes.items - b.filled } };
+    ghost view = { λ b. record { text = slice_range b.bytes.items b.start b.filled; most = b.most; room = b.most + 1 - b.filled; ready = length b.bytes.items - b.filled } };
 
-    ghost invariant = { λ b. (b.start ≤ b.filled) × (b.filled ≤ length b.bytes.items) × (0 < length b.bytes.items)
+    ghost invariant = { λ b. (b.start ≤ b.filled) × (b.filled ≤ length b.bytes.items) × (length b.bytes.items ≤ b.most + 1) × (b.most < vec_capacity b.bytes)
         × (b.start + b.searched ≤ b.filled) × (position is_lf (take b.searched (slice_range b.bytes.items b.start b.filled)) ≡ None) };
 }
 
 fn lf_of(text: &[u8]) -> Option<usize>
     ensures { result ≡ position is_lf text.now }
 {
-    text.iter().position(|b| *b == b'\n')
+    memchr(b'\n', text)
+}
+
+// The room is there, so that this takes no memory.
+fn lengthen(bytes: &mut Vec<u8>, count: usize)
+    requires { vec_len bytes.old + count ≤ vec_capacity bytes.old }
+    ensures items { bytes.new.items ≡ bytes.old.items ++ replicate count 0 }
+    ensures capacity { vec_capacity bytes.old ≤ vec_capacity bytes.new }
+{
+    if bytes.resize(bytes.len() + count, 0).is_err() {
+        unreachable!();
+    }
 }
 
 // Reads some bytes to that place.
@@ -66,9 +82,11 @@ impl LineBuffer {
         ensures text { IfOk result (λ b. b.text ≡ []) }
         ensures most { IfOk result (λ b. b.most ≡ line) }
     {
-        let bytes = vec![in alloc; 0; line as usize + 1]?;
+        let most = line as usize;
+        let bytes = Vec::with_capacity(alloc, most + 1)?;
         Ok(LineBuffer {
             bytes,
+            most,
             start: 0,
             filled: 0,
             searched: 0,
@@ -94,7 +112,7 @@ impl LineBuffer {
     pub fn is_full(&self) -> bool
         ensures { IsTrue result ↔ (self.now.most < length self.now.text) }
     {
-        self.filled - self.start >= self.bytes.len()
+        self.filled - self.start > self.most
     }
 
     /// The place of the first LF.
@@ -137,6 +155,21 @@ impl LineBuffer {
         self.filled = filled - start;
     }
 
+    // Settles the buffer, and makes more of its room ready where none is.
+    fn make_ready(&mut self)
+        requires room { length self.old.text ≤ self.old.most }
+        ensures text { self.new.text ≡ self.old.text }
+        ensures most { self.new.most ≡ self.old.most }
+        ensures ready { 0 < self.new.ready }
+    {
+        self.settle();
+        if self.filled < self.bytes.len() {
+            return;
+        }
+        let free = self.most + 1 - self.filled;
+        lengthen(&mut self.bytes, free.min(BLOCK));
+    }
+
     /// Reads some bytes of the connection at hand, at most so many; 0 at its end.
     pub fn fill<D: Disk, L: Links<D>>(
         &mut self,
@@ -156,10 +189,10 @@ impl LineBuffer {
         ensures faults { Counts (L.faults links.old) (L.faults links.new) result }
         ensures next_faults { L.next_faults links.new ≡ L.next_faults links.old }
     {
-        self.settle();
+        self.make_ready();
         let filled = self.filled;
-        let room = (self.bytes.len() - filled) as u64;
-        let count = room.min(limit) as usize;
+        let ready = (self.bytes.len() - filled) as u64;
+        let count = ready.min(limit) as usize;
         let n = read_at::<D, L>(links, &mut self.bytes, filled, count)?;
         self.filled = filled + n;
         Ok(n)
