@@ -5,11 +5,12 @@
 
 PROGRAM is the built bt_prog, READER the built bt_texts, DIR a folder on the device to measure. ROWS
 rows of four cells (100,000, unless told) are loaded by MutateRows of 100 entries, each of which is one
-record of the log; beside it the time that READER takes to read the same lines by serde_json
-alone. Then, in a folder in memory, where
-syncs cost nothing: lines that set and delete one cell of a row of 1,000 to 100,000 cells, and
-lines that drop the ten rows of a prefix, one prefix after another, from tables of 1,000 to 100,000
-rows. Best of three.
+record of the log: into a folder in memory, where syncs cost nothing, and into one in DIR; beside
+them the time that READER takes to read the same lines by serde_json alone, and the four bare calls
+of such records, one after another and with as much work between them as a load in memory is. Best
+of five, in turn. Then, in a folder in memory: lines that set and delete one cell of a row of 1,000
+to 100,000 cells, and lines that drop the ten rows of a prefix, one prefix after another, from tables
+of 1,000 to 100,000 rows. Best of three.
 """
 import base64
 import json
@@ -18,6 +19,8 @@ import subprocess
 import sys
 import tempfile
 import time
+
+from storage import compiled
 
 TABLE = "projects/fill/instances/fill/tables/fill"
 MEMORY = "/dev/shm"
@@ -63,24 +66,54 @@ def taken(command, given):
         return time.perf_counter() - began, done.stdout
 
 
+def once(program, where, given):
+    """The time of a run over a folder of its own, all of whose lines are answered OK."""
+    with tempfile.TemporaryDirectory(dir=where) as folder:
+        took, printed = taken([program, "run", folder], given.encode())
+        assert printed.count(b'{"status":{}}\n') == given.count("\n"), printed[-400:]
+        return took
+
+
 def run(program, where, given):
-    """The least time of three runs, each over a folder of its own, all of whose lines are answered OK."""
-    least = 1e9
-    for _ in range(3):
-        with tempfile.TemporaryDirectory(dir=where) as folder:
-            took, printed = taken([program, "run", folder], given.encode())
-            assert printed.count(b'{"status":{}}\n') == given.count("\n"), printed[-400:]
-            least = min(least, took)
-    return least
+    """The least time of three runs."""
+    return min(once(program, where, given) for _ in range(3))
 
 
-def load(program, reader, where, rows):
+def loads(program, reader, where, rows):
     lines = "".join(batches(rows))
-    took = run(program, where, CREATE + lines)
     alone = "".join("serde_json " + line for line in lines.splitlines(keepends=True)).encode()
-    read = min(taken([reader], alone)[0] for _ in range(3))
-    print(f"load of {rows} rows by batches of 100: {rows / took:.0f} rows a second, {took:.2f} s")
-    print(f"their {len(lines) / 1e6:.1f} MB of lines, read as JSON alone: {read:.2f} s, ratio {took / read:.2f}")
+    read = memory = disk = 1e9
+    for _ in range(5):
+        read = min(read, taken([reader], alone)[0])
+        memory = min(memory, once(program, MEMORY, CREATE + lines))
+        disk = min(disk, once(program, where, CREATE + lines))
+    print(f"{rows} rows by batches of 100, {len(lines) / 1e6:.1f} MB of lines, read as JSON alone: {read:.2f} s")
+    print(f"load, in memory: {rows / memory:.0f} rows a second, {memory / read:.2f} times as long")
+    print(f"load, on the disk: {rows / disk:.0f} rows a second, {disk / read:.2f} times as long")
+    return lines, memory, disk
+
+
+def logged(program, given):
+    """The bytes of the folder that these lines make."""
+    with tempfile.TemporaryDirectory(dir=MEMORY) as folder:
+        taken([program, "run", folder], given.encode())
+        return sum(os.path.getsize(os.path.join(folder, name)) for name in os.listdir(folder))
+
+
+def bare_calls(where, records, length, work):
+    """Microseconds of the four bare calls of a record, with so many of work before each. Best of five."""
+    with tempfile.TemporaryDirectory(dir=where) as folder:
+        floor = compiled(folder)
+        given = [floor, os.path.join(folder, "calls"), str(records), str(length), str(work)]
+        return min(int(subprocess.run(given, stdout=subprocess.PIPE, check=True).stdout) for _ in range(5))
+
+
+def disk_share(program, where, lines, memory, disk):
+    records = lines.count("\n")
+    length, work = logged(program, CREATE + lines) // records, int(memory / records * 1e6)
+    print(f"of a batch, the disk takes {(disk - memory) / records * 1e6:.0f} us")
+    print(f"four bare calls on {length} bytes: {bare_calls(where, records, length, 0)} us")
+    print(f"the same with {work} us of work between: {bare_calls(where, records, length, work)} us")
 
 
 def wide(program, cells):
@@ -109,7 +142,8 @@ def drops(program, rows):
 
 def main():
     program, reader, where = (os.path.abspath(path) for path in sys.argv[1:4])
-    load(program, reader, where, int(sys.argv[4]) if len(sys.argv) > 4 else 100000)
+    lines, memory, disk = loads(program, reader, where, int(sys.argv[4]) if len(sys.argv) > 4 else 100000)
+    disk_share(program, where, lines, memory, disk)
     for size in (1000, 10000, 100000):
         print(f"one cell of a row of {size}: {wide(program, size):.0f} us a line")
     for size in (1000, 10000, 100000):
